@@ -1,0 +1,1 @@
+// Laws and no program: small laws that every other crate cites, in specs/.

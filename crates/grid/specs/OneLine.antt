@@ -1,0 +1,214 @@
+-- What a list of runs means, and that a line is the only good list that means its f.
+use mathlib.Core.Path.{_≡_, refl, sym, ap, _∙_}
+use mathlib.Core.Logic.{_≢_}
+use mathlib.Core.Bool.{Bool, true, false, _&&_, false≢true, true≢false}
+use mathlib.Core.List.{List, [], _∷_}
+use Prim.Native.Nat.{ℕ, zero, suc, _+_, _-_, _≤_, _<_}
+use native.Mathlib.Omega.{arith}
+use native.Mathlib.Decide.{decLt, ℕ-discrete}
+use lib.Dec.{eqb}
+use borrow.Author.Tests.{eq-eqb, eqb-true}
+use Rattle.meaning.specs.Cells.{Dir, off, fwd, bwd}
+use Rattle.meaning.specs.Records.{Run, run, sameDir, joinIf, join, put, line}
+use Rattle.meaning.specs.Numbers.{pick}
+use Rattle.basics.specs.Tests.{spans, and-left, and-right, spans-in, spans-below, spans-above}
+use Rattle.grid.specs.LineLaws.{same-refl}
+
+-- the direction of piece k
+unfoldable pub dirAt : List Run → ℕ → Dir
+dirAt [] k = off
+dirAt (run l h d ∷ rs) k = pick (spans l h k) d (dirAt rs k)
+
+-- Runs that are not empty, in order from a on, apart from each other; two that touch differ in direction.
+-- d is the direction of a run that ends at a.
+abbrev pub Good : ℕ → Dir → List Run → Type 0
+Good a d [] = Unit {0}
+Good a d (run l h e ∷ rs) = (a ≤ l) × (l < h) × (e ≢ off) × (l ≡ a → e ≢ d) × Good h e rs
+
+-- ---- directions
+
+pub same-true : (d e : Dir) → sameDir d e ≡ true → d ≡ e
+same-true off off p = refl
+same-true off fwd p = absurd (false≢true p)
+same-true off bwd p = absurd (false≢true p)
+same-true fwd off p = absurd (false≢true p)
+same-true fwd fwd p = refl
+same-true fwd bwd p = absurd (false≢true p)
+same-true bwd off p = absurd (false≢true p)
+same-true bwd fwd p = absurd (false≢true p)
+same-true bwd bwd p = refl
+
+fwd≢off : fwd ≢ off
+fwd≢off e = let z : true ≡ false = ap (sameDir fwd) e in true≢false z
+
+bwd≢off : bwd ≢ off
+bwd≢off e = let z : true ≡ false = ap (sameDir bwd) e in true≢false z
+
+-- ---- a line is good
+
+pub weaken : (a b : ℕ) (rs : List Run) → a ≤ b → Good b off rs → Good a off rs
+weaken a b [] p g = tt
+weaken a b (run l h e ∷ rs) p g = (omega arith, g .1, g .2, λ _. g .2, g .4)
+
+good-if : (t : Bool) (a b : ℕ) (d : Dir) (l h : ℕ) (e : Dir) (rs : List Run) → (eqb l b && sameDir e d) ≡ t → d ≢ off → a < b → Good b off (run l h e ∷ rs) → Good a off (joinIf t a b d l h e rs)
+good-if true a b d l h e rs q nd p g =
+    let le : l ≡ b = eqb-true l b (and-left (eqb l b) (sameDir e d) q) in
+    let de : e ≡ d = same-true e d (and-right (eqb l b) (sameDir e d) q) in
+    (omega arith, omega arith, nd, λ _. nd, rw de at (g .4))
+good-if false a b d l h e rs q nd p g =
+    (omega arith, p, nd, λ _. nd, (g .0, g .1, g .2, λ le de. false≢true (sym q ∙ rw (eq-eqb l b le, de, same-refl d)), g .4))
+
+good-join : (a b : ℕ) (d : Dir) (rs : List Run) → d ≢ off → a < b → Good b off rs → Good a off (join a b d rs)
+good-join a b d [] nd p g = (omega arith, p, nd, λ _. nd, tt)
+good-join a b d (run l h e ∷ rs) nd p g = good-if (eqb l b && sameDir e d) a b d l h e rs refl nd p g
+
+pub good-put : (a b : ℕ) (d : Dir) (rs : List Run) → a < b → Good b off rs → Good a off (put a b d rs)
+good-put a b off rs p g = weaken a b rs (omega arith) g
+good-put a b fwd rs p g = good-join a b fwd rs fwd≢off p g
+good-put a b bwd rs p g = good-join a b bwd rs bwd≢off p g
+
+pub line-good : (f : ℕ → Dir) (a n : ℕ) → Good a off (line f a n)
+unfolding line
+line-good f a zero = tt
+line-good f a (suc n) = good-put a (suc a) (f a) (line f (suc a) n) (omega arith) (line-good f (suc a) n)
+
+-- ---- a line means f
+
+pub at-below : (a : ℕ) (d : Dir) (rs : List Run) (k : ℕ) → Good a d rs → k < a → dirAt rs k ≡ off
+unfolding dirAt
+at-below a d [] k g p = refl
+at-below a d (run l h e ∷ rs) k g p = rw (spans-below l h k (omega arith)) (at-below h e rs k (g .4) (omega arith))
+
+at-in-if : (t : Bool) (a b : ℕ) (d : Dir) (l h : ℕ) (e : Dir) (rs : List Run) (k : ℕ) → b ≤ l → l < h → a ≤ k → k < b → dirAt (joinIf t a b d l h e rs) k ≡ d
+unfolding dirAt
+at-in-if true a b d l h e rs k u v p q = rw (spans-in a h k p (omega arith))
+at-in-if false a b d l h e rs k u v p q = rw (spans-in a b k p q)
+
+at-in-join : (a b : ℕ) (d : Dir) (rs : List Run) (k : ℕ) → Good b off rs → a ≤ k → k < b → dirAt (join a b d rs) k ≡ d
+unfolding dirAt
+at-in-join a b d [] k g p q = rw (spans-in a b k p q)
+at-in-join a b d (run l h e ∷ rs) k g p q = at-in-if (eqb l b && sameDir e d) a b d l h e rs k (g .0) (g .1) p q
+
+pub at-in : (a b : ℕ) (d : Dir) (rs : List Run) (k : ℕ) → Good b off rs → a ≤ k → k < b → dirAt (put a b d rs) k ≡ d
+at-in a b off rs k g p q = at-below b off rs k g q
+at-in a b fwd rs k g p q = at-in-join a b fwd rs k g p q
+at-in a b bwd rs k g p q = at-in-join a b bwd rs k g p q
+
+at-out-if : (t : Bool) (a b : ℕ) (d : Dir) (l h : ℕ) (e : Dir) (rs : List Run) (k : ℕ) → (eqb l b && sameDir e d) ≡ t → a ≤ b → b ≤ k → dirAt (joinIf t a b d l h e rs) k ≡ dirAt (run l h e ∷ rs) k
+unfolding dirAt
+at-out-if true a b d l h e rs k q u p =
+    let le : l ≡ b = eqb-true l b (and-left (eqb l b) (sameDir e d) q) in
+    let de : e ≡ d = same-true e d (and-right (eqb l b) (sameDir e d) q) in
+    go (decLt k h) le de
+  where
+    go : Dec (k < h) → l ≡ b → e ≡ d → pick (spans a h k) d (dirAt rs k) ≡ pick (spans l h k) e (dirAt rs k)
+    go (yes v) le de = rw (spans-in a h k (omega arith) v, spans-in l h k (omega arith) v, de)
+    go (no v) le de = rw (spans-above a h k (omega arith), spans-above l h k (omega arith))
+at-out-if false a b d l h e rs k q u p = rw (spans-above a b k p)
+
+at-out-join : (a b : ℕ) (d : Dir) (rs : List Run) (k : ℕ) → a ≤ b → b ≤ k → dirAt (join a b d rs) k ≡ dirAt rs k
+unfolding dirAt
+at-out-join a b d [] k u p = rw (spans-above a b k p)
+at-out-join a b d (run l h e ∷ rs) k u p = at-out-if (eqb l b && sameDir e d) a b d l h e rs k refl u p
+
+pub at-out : (a b : ℕ) (d : Dir) (rs : List Run) (k : ℕ) → a ≤ b → b ≤ k → dirAt (put a b d rs) k ≡ dirAt rs k
+at-out a b off rs k u p = refl
+at-out a b fwd rs k u p = at-out-join a b fwd rs k u p
+at-out a b bwd rs k u p = at-out-join a b bwd rs k u p
+
+-- within the range piece k of the line has direction f k
+pub line-means : (f : ℕ → Dir) (a n k : ℕ) → a ≤ k → k < a + n → dirAt (line f a n) k ≡ f k
+unfolding line
+line-means f a zero k p q = absurd (omega arith)
+line-means f a (suc n) k p q = go (ℕ-discrete a k) (λ u. line-means f (suc a) n k u (omega arith))
+  where
+    rs : List Run
+    rs = line f (suc a) n
+
+    go : Dec (a ≡ k) → (suc a ≤ k → dirAt rs k ≡ f k) → dirAt (put a (suc a) (f a) rs) k ≡ f k
+    go (yes e) ih = at-in a (suc a) (f a) rs k (line-good f (suc a) n) p (omega arith) ∙ ap f e
+    go (no e) ih = at-out a (suc a) (f a) rs k (omega arith) (omega arith) ∙ ih (omega arith)
+
+-- outside it has none
+pub line-after : (f : ℕ → Dir) (a n k : ℕ) → a + n ≤ k → dirAt (line f a n) k ≡ off
+unfolding line dirAt
+line-after f a zero k p = refl
+line-after f a (suc n) k p = at-out a (suc a) (f a) (line f (suc a) n) k (omega arith) (omega arith) ∙ line-after f (suc a) n k (omega arith)
+
+pub line-before : (f : ℕ → Dir) (a n k : ℕ) → k < a → dirAt (line f a n) k ≡ off
+line-before f a n k p = at-below a off (line f a n) k (line-good f a n) p
+
+-- ---- only one good list means f
+
+at-first : (l h : ℕ) (e : Dir) (rs : List Run) (k : ℕ) → l ≤ k → k < h → dirAt (run l h e ∷ rs) k ≡ e
+unfolding dirAt
+at-first l h e rs k p q = rw (spans-in l h k p q)
+
+at-later : (l h : ℕ) (e : Dir) (rs : List Run) (k : ℕ) → h ≤ k → dirAt (run l h e ∷ rs) k ≡ dirAt rs k
+unfolding dirAt
+at-later l h e rs k p = rw (spans-above l h k p)
+
+-- where a run ended its direction does not go on
+at-start : (a : ℕ) (d : Dir) (rs : List Run) → d ≢ off → Good a d rs → dirAt rs a ≢ d
+unfolding dirAt
+at-start a d [] nd g p = nd (sym p)
+at-start a d (run l h e ∷ rs) nd g p = go (ℕ-discrete l a)
+  where
+    go : Dec (l ≡ a) → ⊥
+    go (yes q) = g .3 q (sym (at-first l h e rs a (omega arith) (omega arith)) ∙ p)
+    go (no q) = nd (sym p ∙ at-below l off (run l h e ∷ rs) a (omega arith, g .1, g .2, λ _. g .2, g .4) (omega arith))
+
+-- the first of two lists that mean the same cannot start earlier, nor end earlier
+no-earlier : (a : ℕ) (d : Dir) (l h : ℕ) (e : Dir) (rs : List Run) (l′ h′ : ℕ) (e′ : Dir) (ss : List Run)
+    → Good a d (run l h e ∷ rs) → Good a d (run l′ h′ e′ ∷ ss) → ((k : ℕ) → dirAt (run l h e ∷ rs) k ≡ dirAt (run l′ h′ e′ ∷ ss) k) → l′ ≤ l
+no-earlier a d l h e rs l′ h′ e′ ss g g′ m = go (decLt l l′)
+  where
+    go : Dec (l < l′) → l′ ≤ l
+    go (yes q) = absurd (g .2 (sym (at-first l h e rs l (omega arith) (g .1)) ∙ m l ∙ at-below l′ off (run l′ h′ e′ ∷ ss) l (omega arith, g′ .1, g′ .2, λ _. g′ .2, g′ .4) q))
+    go (no q) = omega arith
+
+no-shorter : (l h : ℕ) (e : Dir) (rs : List Run) (h′ : ℕ) (ss : List Run) → l < h → e ≢ off
+    → Good h e rs → ((k : ℕ) → dirAt (run l h e ∷ rs) k ≡ dirAt (run l h′ e ∷ ss) k) → h′ ≤ h
+no-shorter l h e rs h′ ss lh ne g m = go (decLt h h′)
+  where
+    go : Dec (h < h′) → h′ ≤ h
+    go (yes q) = absurd (at-start h e rs ne g (sym (at-later l h e rs h (omega arith)) ∙ m h ∙ at-first l h′ e ss h (omega arith) q))
+    go (no q) = omega arith
+
+rest-same : (l h : ℕ) (e : Dir) (rs ss : List Run) → Good h e rs → Good h e ss → ((k : ℕ) → dirAt (run l h e ∷ rs) k ≡ dirAt (run l h e ∷ ss) k) → (k : ℕ) → dirAt rs k ≡ dirAt ss k
+rest-same l h e rs ss g g′ m k = go (decLt k h)
+  where
+    go : Dec (k < h) → dirAt rs k ≡ dirAt ss k
+    go (yes q) = at-below h e rs k g q ∙ sym (at-below h e ss k g′ q)
+    go (no q) = sym (at-later l h e rs k (omega arith)) ∙ m k ∙ at-later l h e ss k (omega arith)
+
+-- the same first run, from what both mean
+first-same : (a : ℕ) (d : Dir) (l h : ℕ) (e : Dir) (rs : List Run) (l′ h′ : ℕ) (e′ : Dir) (ss : List Run)
+    → Good a d (run l h e ∷ rs) → Good a d (run l′ h′ e′ ∷ ss) → ((k : ℕ) → dirAt (run l h e ∷ rs) k ≡ dirAt (run l′ h′ e′ ∷ ss) k)
+    → (l ≡ l′) × (h ≡ h′) × (e ≡ e′)
+first-same a d l h e rs l′ h′ e′ ss g g′ m =
+    let p : l ≡ l′ = omega (arith, no-earlier a d l h e rs l′ h′ e′ ss g g′ m, no-earlier a d l′ h′ e′ ss l h e rs g′ g (λ k. sym (m k))) in
+    let q : e ≡ e′ = sym (at-first l h e rs l (omega arith) (g .1)) ∙ m l ∙ at-first l′ h′ e′ ss l (omega arith) (omega arith) in
+    let m′ : (k : ℕ) → dirAt (run l h e ∷ rs) k ≡ dirAt (run l h′ e ∷ ss) k = rw (← p, ← q) at m in
+    let g″ : Good h′ e ss = rw (← q) at (g′ .4) in
+    (p, omega (arith, no-shorter l h e rs h′ ss (g .1) (g .2) (g .4) m′, no-shorter l h′ e ss h rs (omega arith) (g .2) g″ (λ k. sym (m′ k))), q)
+
+pub unique : (a : ℕ) (d : Dir) (rs ss : List Run) → Good a d rs → Good a d ss → ((k : ℕ) → dirAt rs k ≡ dirAt ss k) → rs ≡ ss
+unfolding dirAt
+unique a d [] [] g g′ m = refl
+unique a d [] (run l h e ∷ ss) g g′ m = absurd (g′ .2 (sym (at-first l h e ss l (omega arith) (g′ .1)) ∙ sym (m l)))
+unique a d (run l h e ∷ rs) [] g g′ m = absurd (g .2 (sym (at-first l h e rs l (omega arith) (g .1)) ∙ m l))
+unique a d (run l h e ∷ rs) (run l′ h′ e′ ∷ ss) g g′ m =
+    let f : (l ≡ l′) × (h ≡ h′) × (e ≡ e′) = first-same a d l h e rs l′ h′ e′ ss g g′ m in
+    let g″ : Good h e ss = rw (← (f .1), ← (f .2)) at (g′ .4) in
+    let m′ : (k : ℕ) → dirAt (run l h e ∷ rs) k ≡ dirAt (run l h e ∷ ss) k = rw (← (f .0), ← (f .1), ← (f .2)) at m in
+    let r : rs ≡ ss = unique h e rs ss (g .4) g″ (rest-same l h e rs ss (g .4) g″ m′) in
+    cc (f .0, f .1, f .2, r)
+
+-- A line is the only good list that means f in the range and nothing outside
+pub line-unique : (f : ℕ → Dir) (n : ℕ) (rs : List Run) → Good zero off rs → ((k : ℕ) → k < n → dirAt rs k ≡ f k) → ((k : ℕ) → n ≤ k → dirAt rs k ≡ off) → rs ≡ line f zero n
+line-unique f n rs g i o = unique zero off rs (line f zero n) g (line-good f zero n) (λ k. go k (decLt k n))
+  where
+    go : (k : ℕ) → Dec (k < n) → dirAt rs k ≡ dirAt (line f zero n) k
+    go k (yes p) = i k p ∙ sym (line-means f zero n k (omega arith) (omega arith))
+    go k (no p) = o k (omega arith) ∙ sym (line-after f zero n k (omega arith))

@@ -1,0 +1,1 @@
+// Laws and no program: the plane counted in steps from the least coordinate, in specs/.

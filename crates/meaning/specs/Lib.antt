@@ -1,0 +1,7 @@
+-- What a reader must believe, in the words of document 01, and nothing else: definitions only, no law and no algorithm.
+pub mod Numbers
+pub mod Answers
+pub mod Edges
+pub mod Cells
+pub mod Records
+pub mod Area

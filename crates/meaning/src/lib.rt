@@ -1,0 +1,1 @@
+// Definitions and no program: what document 01 means, in specs/.
