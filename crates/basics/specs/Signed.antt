@@ -1,6 +1,7 @@
 -- Signed numbers: equality, the way of a number through its bits and back, and the natural number that stands for it. Assumes nothing.
 --
 --   eqZ-refl, eqZ-yes, eqZ-no, eqZ-true, eqZ-false   what `eqZ` says
+--   not-leZ, lt-le-trans, le-trans-leZ, lt-not-le, le-not-lt, not-lt-le, lt-le, pred-lt, lt-pred   tests of order
 --   read32, read64       a number that was written as bits and read again
 --   eq-bits              the machine's test of equality, which goes by the bits
 --   told-yes, told-no    what a call of a test says, where `if !test(x)` was not taken, or was
@@ -12,15 +13,15 @@ use mathlib.Core.Bool.{Bool, true, false, not, true≢false, false≢true}
 use Prim.Native.Nat.{ℕ, zero, suc, _+_, _-_, _<_, _^_}
 use native.Mathlib.Omega.{arith}
 use native.Mathlib.Nat.{add-zero}
-use lib.IntN.{ℤ, pos, negsuc, natAbs, subℕ, _+ℤ_, _-ℤ_}
+use lib.IntN.{ℤ, pos, negsuc, natAbs, subℕ, predℤ, _+ℤ_, _-ℤ_}
 use lib.Signed.{mag, leZ, ltZ}
 use lib.Dec.{leb, ltb, eqb, leb·suc-suc}
-use borrow.Author.Tests.{le-ltb, lt-ltb, le-leb, lt-leb, ltb-true, ltb-false, eq-eqb, ne-eqb, eqb-true, not-true, not-false}
+use borrow.Author.Tests.{le-ltb, lt-ltb, le-leb, lt-leb, leb-true, ltb-true, ltb-false, eq-eqb, ne-eqb, eqb-true, not-true, not-false}
 use mir.Syntax.{Width, w32, w64}
 use mir.Val.{SFits, ofZ, toZ}
 use mir.Facts.{toZ-ofZ}
 use Rattle.meaning.specs.Numbers.{eqZ}
-use Rattle.basics.specs.Tests.{leb-same, eqb-same}
+use Rattle.basics.specs.Tests.{not-leb, leb-same, eqb-same}
 
 -- ---- equality
 
@@ -48,6 +49,68 @@ eqZ-true (negsuc a) (negsuc b) e = ap negsuc (eqb-true a b e)
 
 pub eqZ-false : (a b : ℤ) → eqZ a b ≡ false → a ≡ b → ⊥
 eqZ-false a b e h = true≢false (sym (eqZ-yes a b h) ∙ e)
+
+-- ---- order
+
+pub not-leZ : (k h : ℤ) → ltZ k h ≡ not (leZ h k)
+not-leZ (pos k) (pos h) = not-leb k h
+not-leZ (pos k) (negsuc h) = refl
+not-leZ (negsuc k) (pos h) = refl
+not-leZ (negsuc k) (negsuc h) = not-leb h k
+
+pub lt-le-trans : (a b c : ℤ) → ltZ a b ≡ true → leZ b c ≡ true → ltZ a c ≡ true
+lt-le-trans (pos a) (pos b) (pos c) p q = lt-ltb a c (omega (arith, ltb-true a b p, leb-true b c q))
+lt-le-trans (pos a) (pos b) (negsuc c) p q = q
+lt-le-trans (pos a) (negsuc b) c p q = absurd (false≢true p)
+lt-le-trans (negsuc a) b (pos c) p q = refl
+lt-le-trans (negsuc a) (pos b) (negsuc c) p q = absurd (false≢true q)
+lt-le-trans (negsuc a) (negsuc b) (negsuc c) p q = lt-ltb c a (omega (arith, ltb-true b a p, leb-true c b q))
+
+pub le-trans-leZ : (a b c : ℤ) → leZ a b ≡ true → leZ b c ≡ true → leZ a c ≡ true
+le-trans-leZ (pos a) (pos b) (pos c) p q = le-leb a c (omega (arith, leb-true a b p, leb-true b c q))
+le-trans-leZ (pos a) (pos b) (negsuc c) p q = q
+le-trans-leZ (pos a) (negsuc b) c p q = absurd (false≢true p)
+le-trans-leZ (negsuc a) b (pos c) p q = refl
+le-trans-leZ (negsuc a) (pos b) (negsuc c) p q = absurd (false≢true q)
+le-trans-leZ (negsuc a) (negsuc b) (negsuc c) p q = le-leb c a (omega (arith, leb-true b a p, leb-true c b q))
+
+-- what is below is not at or above, and the other way round
+pub lt-not-le : (a b : ℤ) → ltZ a b ≡ true → leZ b a ≡ false
+lt-not-le a b p = go (leZ b a) refl
+  where
+    go : (t : Bool) → leZ b a ≡ t → leZ b a ≡ false
+    go true e = absurd (false≢true (sym (not-leZ a b ∙ ap not e) ∙ p))
+    go false e = e
+
+pub le-not-lt : (a b : ℤ) → leZ a b ≡ true → ltZ b a ≡ false
+le-not-lt a b p = not-leZ b a ∙ ap not p
+
+pub not-lt-le : (a b : ℤ) → ltZ a b ≡ false → leZ b a ≡ true
+not-lt-le a b p = go (leZ b a) refl
+  where
+    go : (t : Bool) → leZ b a ≡ t → leZ b a ≡ true
+    go true e = e
+    go false e = absurd (true≢false (sym (not-leZ a b ∙ ap not e) ∙ p))
+
+pub lt-le : (a b : ℤ) → ltZ a b ≡ true → leZ a b ≡ true
+lt-le (pos a) (pos b) p = le-leb a b (omega (arith, ltb-true a b p))
+lt-le (pos a) (negsuc b) p = p
+lt-le (negsuc a) (pos b) p = refl
+lt-le (negsuc a) (negsuc b) p = le-leb b a (omega (arith, ltb-true b a p))
+
+-- the number before
+pub pred-lt : (a b : ℤ) → ltZ a b ≡ true → ltZ (predℤ a) b ≡ true
+pred-lt (pos zero) (pos b) p = refl
+pred-lt (pos (suc a)) (pos b) p = lt-ltb a b (omega (arith, ltb-true (suc a) b p))
+pred-lt (pos zero) (negsuc b) p = absurd (false≢true p)
+pred-lt (pos (suc a)) (negsuc b) p = p
+pred-lt (negsuc a) (pos b) p = refl
+pred-lt (negsuc a) (negsuc b) p = lt-ltb b (suc a) (omega (arith, ltb-true b a p))
+
+pub lt-pred : (n : ℕ) (b : ℤ) → ltZ (pos n) b ≡ true → leZ (pos n) (predℤ b) ≡ true
+lt-pred n (pos zero) p = absurd (omega (arith, ltb-true n 0 p))
+lt-pred n (pos (suc b)) p = le-leb n b (omega (arith, ltb-true n (suc b) p))
+lt-pred n (negsuc b) p = absurd (false≢true p)
 
 -- ---- bits
 

@@ -8,7 +8,7 @@ use native.Mathlib.Nat.{suc-add, zero-add, add-zero, add-suc, mul-add, mul-zero}
 use lib.Dec.{eqb}
 use borrow.Author.Tests.{eqb-true}
 use Rattle.meaning.specs.Numbers.{bit}
-use Rattle.meaning.specs.Cells.{Dir, off, fwd, bwd, turn}
+use Rattle.meaning.specs.Cells.{Dir, off, fwd, bwd, goes, turn}
 use Rattle.meaning.specs.Records.{Run, run, sameDir, joinIf, join, put, line, Record, rec}
 use Rattle.meaning.specs.Area.{total}
 use Rattle.basics.specs.Tests.{and-left, and-right}
@@ -63,14 +63,10 @@ sum-kind ψ kind F N A =
 -- ---- a column from below
 
 abbrev pub east : Dir → ℕ
-east off = 0
-east fwd = 1
-east bwd = 0
+east d = goes true d
 
 abbrev pub west : Dir → ℕ
-west off = 0
-west fwd = 0
-west bwd = 1
+west d = goes false d
 
 abbrev pub stepN : (ℕ → Bool) → ℕ → Dir
 stepN h y = turn (prior h y) (h y)

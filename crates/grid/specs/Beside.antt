@@ -14,10 +14,11 @@ use Rattle.meaning.specs.Numbers.{bit, pick}
 use Rattle.meaning.specs.Edges.{Edge, number, covers}
 use Rattle.meaning.specs.Area.{total}
 use Rattle.basics.specs.Tests.{and-on}
+use Rattle.basics.specs.Lists.{all-map, number-none, number-append}
 use Rattle.grid.specs.Plane.{ClosedN, goesWest, goesEast, upToN, westsN, eastsN, coversN, insideN, xsOf, ysOf}
 use Rattle.grid.specs.Covering.{covers-one}
 use Rattle.grid.specs.Places.{has}
-use Rattle.grid.specs.Compression.{each-map, number-none, col-late, row-late}
+use Rattle.grid.specs.Compression.{col-late, row-late}
 use Rattle.grid.specs.ClosedTest.{layersOf, layers-none}
 use Rattle.grid.specs.Sums.{total-same}
 use Rattle.grid.specs.AreaLaws.{east, west, stepN, climb}
@@ -73,11 +74,6 @@ module _ (c N : ℕ) (g : ℕ → ℕ → Bool) (B : Bounded N g) where
 
 -- ---- beside other edges
 
-pub number-append : (P : Edge ℕ → Bool) (es fs : List (Edge ℕ)) → number P (es ++ fs) ≡ number P es + number P fs
-unfolding number
-number-append P [] fs = sym (zero-add (number P fs))
-number-append P (e ∷ es) fs = omega (arith, number-append P es fs)
-
 pub closed-append : (es fs : List (Edge ℕ)) → ClosedN es → ClosedN fs → ClosedN (es ++ fs)
 unfolding ClosedN
 closed-append es fs p q c i = omega (arith, number-append (goesWest c i) es fs, number-append (goesEast c i) es fs, p c i, q c i)
@@ -87,8 +83,8 @@ absent : (c i j : ℕ) (es : List (Edge ℕ)) → has c (layersOf es) ≡ false 
 unfolding westsN eastsN
 absent c i j es h =
     let s = layers-none c i es h in (
-      number-none (λ e. goesWest c i e && upToN j e) es (each-map _ _ es (λ e h. ap (λ (b : Bool). b && upToN j e) (h .0)) s),
-      number-none (λ e. goesEast c i e && upToN j e) es (each-map _ _ es (λ e h. ap (λ (b : Bool). b && upToN j e) (h .1)) s),
+      number-none (λ e. goesWest c i e && upToN j e) es (all-map _ _ es (λ e h. ap (λ (b : Bool). b && upToN j e) (h .0)) s),
+      number-none (λ e. goesEast c i e && upToN j e) es (all-map _ _ es (λ e h. ap (λ (b : Bool). b && upToN j e) (h .1)) s),
     )
 
 module _ (c N : ℕ) (g : ℕ → ℕ → Bool) (B : Bounded N g) (es : List (Edge ℕ)) (new : has c (layersOf es) ≡ false) where

@@ -8,9 +8,10 @@ use lib.Dec.{leb, eqb}
 use borrow.Author.Tests.{eq-eqb, ne-eqb, eqb-true, leb-true}
 use Rattle.meaning.specs.Edges.{Edge, edge, number}
 use Rattle.basics.specs.Tests.{and-left, and-right}
+use Rattle.basics.specs.Lists.{All, all-map, number-same, number-none}
 use Rattle.grid.specs.Plane.{ClosedN, goesWest, goesEast, xsOf}
 use Rattle.grid.specs.Places.{has, has-tail, has-ne}
-use Rattle.grid.specs.Compression.{Each, number-same, number-none, each-map, cols-same, cols-early}
+use Rattle.grid.specs.Compression.{cols-same, cols-early}
 
 unfoldable pub allBy : (ℕ → Bool) → List ℕ → Bool
 allBy P [] = true
@@ -49,7 +50,7 @@ closedOver cs bs es = allBy (λ i. allBy (λ c. eqb (number (goesWest c i) es) (
 unfoldable pub closedTest : List (Edge ℕ) → Bool
 closedTest es = closedOver (layersOf es) (xsOf es) es
 
-pub layers-none : (c i : ℕ) (es : List (Edge ℕ)) → has c (layersOf es) ≡ false → Each (λ e. (goesWest c i e ≡ false) × (goesEast c i e ≡ false)) es
+pub layers-none : (c i : ℕ) (es : List (Edge ℕ)) → has c (layersOf es) ≡ false → All (λ e. (goesWest c i e ≡ false) × (goesEast c i e ≡ false)) es
 unfolding layersOf goesWest goesEast
 layers-none c i [] h = tt
 layers-none c i (edge b y f t ∷ es) h =
@@ -69,16 +70,16 @@ closed-from cs bs es hc hb t c i = byLayer (has c cs) refl
     col : (i : ℕ) → has c cs ≡ true → number (goesWest c i) es ≡ number (goesEast c i) es
     col zero h = same zero h (has zero bs) refl (λ z.
         let s = cols-early zero es (λ k l. ap (λ (x : ℕ). has x (xsOf es)) (omega arith) ∙ z) in
-        number-none (goesWest c zero) es (each-map _ _ es (λ e h. h c .0) s) ∙ sym (number-none (goesEast c zero) es (each-map _ _ es (λ e h. h c .1) s)))
+        number-none (goesWest c zero) es (all-map _ _ es (λ e h. h c .0) s) ∙ sym (number-none (goesEast c zero) es (all-map _ _ es (λ e h. h c .1) s)))
     col (suc i) h = let ih = col i h in same (suc i) h (has (suc i) bs) refl (λ z.
         let s = cols-same i (suc i) es (omega arith) (λ k l m. ap (λ (x : ℕ). has x (xsOf es)) (omega arith) ∙ z) in
-        number-same (goesWest c (suc i)) (goesWest c i) es (each-map _ _ es (λ e h. h c .0) s) ∙ ih ∙ sym (number-same (goesEast c (suc i)) (goesEast c i) es (each-map _ _ es (λ e h. h c .1) s)))
+        number-same (goesWest c (suc i)) (goesWest c i) es (all-map _ _ es (λ e h. h c .0) s) ∙ ih ∙ sym (number-same (goesEast c (suc i)) (goesEast c i) es (all-map _ _ es (λ e h. h c .1) s)))
 
     byLayer : (b : Bool) → has c cs ≡ b → number (goesWest c i) es ≡ number (goesEast c i) es
     byLayer true e = col i e
     byLayer false e =
         let s = layers-none c i es (hc c e) in
-        number-none (goesWest c i) es (each-map _ _ es (λ e h. h .0) s) ∙ sym (number-none (goesEast c i) es (each-map _ _ es (λ e h. h .1) s))
+        number-none (goesWest c i) es (all-map _ _ es (λ e h. h .0) s) ∙ sym (number-none (goesEast c i) es (all-map _ _ es (λ e h. h .1) s))
 
 pub closed-by : (es : List (Edge ℕ)) → closedTest es ≡ true → ClosedN es
 unfolding closedTest

@@ -13,30 +13,11 @@ use Rattle.meaning.specs.Cells.{Dir, off, turn}
 use Rattle.meaning.specs.Records.{line, Record}
 use Rattle.meaning.specs.Edges.{Edge, edge, number, covers}
 use Rattle.basics.specs.Tests.{not-leb, and-on, spans, spans-below, spans-above, and-off}
+use Rattle.basics.specs.Lists.{All, all-map, number-same, number-none}
 use Rattle.grid.specs.Covering.{covers-none}
 use Rattle.grid.specs.Plane.{ClosedN, goesWest, goesEast, upToN, westsN, eastsN, coversN, insideN, prior, levelN, uprightN, recordAt, eachOf, kindN, kindAt, resultN, resultAt, ysOf, xsOf, sorted}
 use Rattle.grid.specs.LineLaws.{line-off}
 use Rattle.grid.specs.Places.{has, has-ne, has-tail, Rising, Quiet, Jumps, each-at, line-over, sorted-rising, sorted-has}
-
--- ---- counts
-
-abbrev pub Each : (Edge ℕ → Type 0) → List (Edge ℕ) → Type 0
-Each P [] = Unit {0}
-Each P (e ∷ es) = P e × Each P es
-
-pub number-same : (P Q : Edge ℕ → Bool) (es : List (Edge ℕ)) → Each (λ e. P e ≡ Q e) es → number P es ≡ number Q es
-unfolding number
-number-same P Q [] h = refl
-number-same P Q (e ∷ es) h = ap₂ (λ (b : Bool) (n : ℕ). bit b + n) (h .0) (number-same P Q es (h .1))
-
-pub number-none : (P : Edge ℕ → Bool) (es : List (Edge ℕ)) → Each (λ e. P e ≡ false) es → number P es ≡ 0
-unfolding number
-number-none P [] h = refl
-number-none P (e ∷ es) h = ap₂ (λ (b : Bool) (n : ℕ). bit b + n) (h .0) (number-none P es (h .1))
-
-pub each-map : (P Q : Edge ℕ → Type 0) (es : List (Edge ℕ)) → ((e : Edge ℕ) → P e → Q e) → Each P es → Each Q es
-each-map P Q [] f h = tt
-each-map P Q (e ∷ es) f h = (f e (h .0), each-map P Q es f (h .1))
 
 -- ---- tests that no place between changes
 
@@ -77,24 +58,24 @@ head-upto p j ps q = go (decLt j p)
 
 -- ---- the edges at a height
 
-rows-same : (j j′ : ℕ) (es : List (Edge ℕ)) → j ≤ j′ → Quiet j j′ (ysOf es) → Each (λ e. upToN j′ e ≡ upToN j e) es
+rows-same : (j j′ : ℕ) (es : List (Edge ℕ)) → j ≤ j′ → Quiet j j′ (ysOf es) → All (λ e. upToN j′ e ≡ upToN j e) es
 unfolding ysOf upToN
 rows-same j j′ [] l q = tt
 rows-same j j′ (edge c y f t ∷ es) l q = (quiet-leb y j j′ (ysOf es) l q, rows-same j j′ es l (quiet-tail y j j′ (ysOf es) q))
 
-rows-early : (j : ℕ) (es : List (Edge ℕ)) → NoneUpTo j (ysOf es) → Each (λ e. upToN j e ≡ false) es
+rows-early : (j : ℕ) (es : List (Edge ℕ)) → NoneUpTo j (ysOf es) → All (λ e. upToN j e ≡ false) es
 unfolding ysOf upToN
 rows-early j [] q = tt
 rows-early j (edge c y f t ∷ es) q = (lt-leb y j (head-after y j (ysOf es) q), rows-early j es (λ k u. has-tail k y (ysOf es) (q k u)))
 
-pub rows-late : (j : ℕ) (es : List (Edge ℕ)) → NoneAfter j (ysOf es) → Each (λ e. upToN j e ≡ true) es
+pub rows-late : (j : ℕ) (es : List (Edge ℕ)) → NoneAfter j (ysOf es) → All (λ e. upToN j e ≡ true) es
 unfolding ysOf upToN
 rows-late j [] q = tt
 rows-late j (edge c y f t ∷ es) q = (le-leb y j (head-upto y j (ysOf es) q), rows-late j es (λ k u. has-tail k y (ysOf es) (q k u)))
 
 -- ---- the edges over a column
 
-pub cols-same : (i i′ : ℕ) (es : List (Edge ℕ)) → i ≤ i′ → Quiet i i′ (xsOf es) → Each (λ e. (c : ℕ) → (goesWest c i′ e ≡ goesWest c i e) × (goesEast c i′ e ≡ goesEast c i e)) es
+pub cols-same : (i i′ : ℕ) (es : List (Edge ℕ)) → i ≤ i′ → Quiet i i′ (xsOf es) → All (λ e. (c : ℕ) → (goesWest c i′ e ≡ goesWest c i e) × (goesEast c i′ e ≡ goesEast c i e)) es
 unfolding xsOf goesWest goesEast
 cols-same i i′ [] l q = tt
 cols-same i i′ (edge b y f t ∷ es) l q =
@@ -105,7 +86,7 @@ cols-same i i′ (edge b y f t ∷ es) l q =
       cols-same i i′ es l (quiet-tail t i i′ (xsOf es) q₁),
     )
 
-pub cols-early : (i : ℕ) (es : List (Edge ℕ)) → NoneUpTo i (xsOf es) → Each (λ e. (c : ℕ) → (goesWest c i e ≡ false) × (goesEast c i e ≡ false)) es
+pub cols-early : (i : ℕ) (es : List (Edge ℕ)) → NoneUpTo i (xsOf es) → All (λ e. (c : ℕ) → (goesWest c i e ≡ false) × (goesEast c i e ≡ false)) es
 unfolding xsOf goesWest goesEast
 cols-early i [] q = tt
 cols-early i (edge b y f t ∷ es) q =
@@ -114,7 +95,7 @@ cols-early i (edge b y f t ∷ es) q =
       cols-early i es (λ k u. has-tail k t (xsOf es) (q₁ k u)),
     )
 
-cols-late : (i : ℕ) (es : List (Edge ℕ)) → NoneAfter i (xsOf es) → Each (λ e. (c : ℕ) → (goesWest c i e ≡ false) × (goesEast c i e ≡ false)) es
+cols-late : (i : ℕ) (es : List (Edge ℕ)) → NoneAfter i (xsOf es) → All (λ e. (c : ℕ) → (goesWest c i e ≡ false) × (goesEast c i e ≡ false)) es
 unfolding xsOf goesWest goesEast
 cols-late i [] q = tt
 cols-late i (edge b y f t ∷ es) q =
@@ -137,41 +118,41 @@ module _ (holds : (ℕ → Bool) → Bool) (empty : holds (λ c. false) ≡ fals
   pub row-same : (i j j′ : ℕ) → j ≤ j′ → Quiet j j′ (ysOf es) → insideN holds es i j′ ≡ insideN holds es i j
   unfolding westsN eastsN
   row-same i j j′ l q =
-      let s : Each (λ e. upToN j′ e ≡ upToN j e) es = rows-same j j′ es l q in
+      let s : All (λ e. upToN j′ e ≡ upToN j e) es = rows-same j j′ es l q in
       cell-same i j i j′
-      (λ c. number-same _ _ es (each-map _ _ es (λ e h. ap (_&&_ (goesWest c i e)) h) s))
-      (λ c. number-same _ _ es (each-map _ _ es (λ e h. ap (_&&_ (goesEast c i e)) h) s))
+      (λ c. number-same _ _ es (all-map _ _ es (λ e h. ap (_&&_ (goesWest c i e)) h) s))
+      (λ c. number-same _ _ es (all-map _ _ es (λ e h. ap (_&&_ (goesEast c i e)) h) s))
 
   pub row-early : (i j : ℕ) → NoneUpTo j (ysOf es) → insideN holds es i j ≡ false
   unfolding westsN eastsN
   row-early i j q =
-      let s : Each (λ e. upToN j e ≡ false) es = rows-early j es q in
+      let s : All (λ e. upToN j e ≡ false) es = rows-early j es q in
       cell-none i j (λ c.
-      number-none _ es (each-map _ _ es (λ e h. ap (_&&_ (goesWest c i e)) h ∙ and-off (goesWest c i e)) s)
-      ∙ sym (number-none _ es (each-map _ _ es (λ e h. ap (_&&_ (goesEast c i e)) h ∙ and-off (goesEast c i e)) s)))
+      number-none _ es (all-map _ _ es (λ e h. ap (_&&_ (goesWest c i e)) h ∙ and-off (goesWest c i e)) s)
+      ∙ sym (number-none _ es (all-map _ _ es (λ e h. ap (_&&_ (goesEast c i e)) h ∙ and-off (goesEast c i e)) s)))
 
   pub row-late : ClosedN es → (i j : ℕ) → NoneAfter j (ysOf es) → insideN holds es i j ≡ false
   unfolding westsN eastsN ClosedN
   row-late closed i j q =
-      let s : Each (λ e. upToN j e ≡ true) es = rows-late j es q in
+      let s : All (λ e. upToN j e ≡ true) es = rows-late j es q in
       cell-none i j (λ c.
-      number-same _ _ es (each-map _ _ es (λ e h. ap (_&&_ (goesWest c i e)) h ∙ and-on (goesWest c i e)) s)
-      ∙ (closed c i ∙ sym (number-same _ _ es (each-map _ _ es (λ e h. ap (_&&_ (goesEast c i e)) h ∙ and-on (goesEast c i e)) s))))
+      number-same _ _ es (all-map _ _ es (λ e h. ap (_&&_ (goesWest c i e)) h ∙ and-on (goesWest c i e)) s)
+      ∙ (closed c i ∙ sym (number-same _ _ es (all-map _ _ es (λ e h. ap (_&&_ (goesEast c i e)) h ∙ and-on (goesEast c i e)) s))))
 
   pub col-same : (i i′ j : ℕ) → i ≤ i′ → Quiet i i′ (xsOf es) → insideN holds es i′ j ≡ insideN holds es i j
   unfolding westsN eastsN
   col-same i i′ j l q =
       let s = cols-same i i′ es l q in
       cell-same i j i′ j
-      (λ c. number-same _ _ es (each-map _ _ es (λ e h. ap (λ (b : Bool). b && upToN j e) (h c .0)) s))
-      (λ c. number-same _ _ es (each-map _ _ es (λ e h. ap (λ (b : Bool). b && upToN j e) (h c .1)) s))
+      (λ c. number-same _ _ es (all-map _ _ es (λ e h. ap (λ (b : Bool). b && upToN j e) (h c .0)) s))
+      (λ c. number-same _ _ es (all-map _ _ es (λ e h. ap (λ (b : Bool). b && upToN j e) (h c .1)) s))
 
-  col-none : (i j : ℕ) → Each (λ e. (c : ℕ) → (goesWest c i e ≡ false) × (goesEast c i e ≡ false)) es → insideN holds es i j ≡ false
+  col-none : (i j : ℕ) → All (λ e. (c : ℕ) → (goesWest c i e ≡ false) × (goesEast c i e ≡ false)) es → insideN holds es i j ≡ false
   unfolding westsN eastsN
   col-none i j s =
       cell-none i j (λ c.
-      number-none _ es (each-map _ _ es (λ e h. ap (λ (b : Bool). b && upToN j e) (h c .0)) s)
-      ∙ sym (number-none _ es (each-map _ _ es (λ e h. ap (λ (b : Bool). b && upToN j e) (h c .1)) s)))
+      number-none _ es (all-map _ _ es (λ e h. ap (λ (b : Bool). b && upToN j e) (h c .0)) s)
+      ∙ sym (number-none _ es (all-map _ _ es (λ e h. ap (λ (b : Bool). b && upToN j e) (h c .1)) s)))
 
   pub col-early : (i j : ℕ) → NoneUpTo i (xsOf es) → insideN holds es i j ≡ false
   col-early i j q = col-none i j (cols-early i es q)

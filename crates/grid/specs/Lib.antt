@@ -7,6 +7,7 @@ pub mod Places
 pub mod Compression
 pub mod Sums
 pub mod AreaLaws
+pub mod Wrap
 pub mod AsLayer
 pub mod Beside
 pub mod Pieces

@@ -12,6 +12,7 @@ use Rattle.meaning.specs.Cells.{Dir, off, fwd, bwd}
 use Rattle.meaning.specs.Records.{Run, run, sameDir, joinIf, join, put, line}
 use Rattle.meaning.specs.Numbers.{pick}
 use Rattle.basics.specs.Tests.{spans, and-left, and-right, spans-in, spans-below, spans-above}
+use Rattle.basics.specs.Lists.{All}
 use Rattle.grid.specs.LineLaws.{same-refl}
 
 -- the direction of piece k
@@ -38,10 +39,10 @@ same-true bwd off p = absurd (false≢true p)
 same-true bwd fwd p = absurd (false≢true p)
 same-true bwd bwd p = refl
 
-fwd≢off : fwd ≢ off
+pub fwd≢off : fwd ≢ off
 fwd≢off e = let z : true ≡ false = ap (sameDir fwd) e in true≢false z
 
-bwd≢off : bwd ≢ off
+pub bwd≢off : bwd ≢ off
 bwd≢off e = let z : true ≡ false = ap (sameDir bwd) e in true≢false z
 
 -- ---- a line is good
@@ -212,3 +213,26 @@ line-unique f n rs g i o = unique zero off rs (line f zero n) g (line-good f zer
     go : (k : ℕ) → Dec (k < n) → dirAt rs k ≡ dirAt (line f zero n) k
     go k (yes p) = i k p ∙ sym (line-means f zero n k (omega arith) (omega arith))
     go k (no p) = o k (omega arith) ∙ sym (line-after f zero n k (omega arith))
+
+-- ---- no run of a line reaches past its last piece
+
+abbrev pub UpTo : ℕ → Run → Type 0
+UpTo m (run l h d) = h ≤ m
+
+upto-if : (t : Bool) (a b : ℕ) (d : Dir) (l h : ℕ) (e : Dir) (rs : List Run) (m : ℕ) → b ≤ m → h ≤ m → All (UpTo m) rs → All (UpTo m) (joinIf t a b d l h e rs)
+upto-if true a b d l h e rs m p q r = (q, r)
+upto-if false a b d l h e rs m p q r = (p, (q, r))
+
+upto-join : (a b : ℕ) (d : Dir) (rs : List Run) (m : ℕ) → b ≤ m → All (UpTo m) rs → All (UpTo m) (join a b d rs)
+upto-join a b d [] m p r = (p, tt)
+upto-join a b d (run l h e ∷ rs) m p r = upto-if (eqb l b && sameDir e d) a b d l h e rs m p (r .0) (r .1)
+
+upto-put : (a b : ℕ) (d : Dir) (rs : List Run) (m : ℕ) → b ≤ m → All (UpTo m) rs → All (UpTo m) (put a b d rs)
+upto-put a b off rs m p r = r
+upto-put a b fwd rs m p r = upto-join a b fwd rs m p r
+upto-put a b bwd rs m p r = upto-join a b bwd rs m p r
+
+pub line-upto : (f : ℕ → Dir) (a n m : ℕ) → a + n ≤ m → All (UpTo m) (line f a n)
+unfolding line
+line-upto f a zero m p = tt
+line-upto f a (suc n) m p = upto-put a (suc a) (f a) (line f (suc a) n) m (omega arith) (line-upto f (suc a) n m (omega arith))

@@ -9,13 +9,13 @@ use native.Mathlib.Nat.{mul-zero}
 use lib.Dec.{eqb}
 use borrow.Author.Tests.{eq-eqb, ne-eqb}
 use Rattle.meaning.specs.Numbers.{bit}
-use Rattle.meaning.specs.Cells.{Dir, off, fwd, bwd}
+use Rattle.meaning.specs.Cells.{Dir, off, fwd, bwd, goes}
 use Rattle.meaning.specs.Records.{run, Record, rec}
 use Rattle.meaning.specs.Area.{total}
 use Rattle.basics.specs.Tests.{spans, spans-in, spans-parts, spans-empty}
 use Rattle.grid.specs.Plane.{levelN, uprightN, recordAt, kindN, resultN}
 use Rattle.grid.specs.Sums.{sumOf, total-one, sum-append}
-use Rattle.grid.specs.AreaLaws.{Additive, sum-kind, east, west}
+use Rattle.grid.specs.AreaLaws.{Additive, sum-kind}
 use Rattle.grid.specs.AsLayer.{piece-off}
 
 -- a record of this kind and place passes piece k: its ends, in one order or the other
@@ -26,10 +26,6 @@ passesN kind p k false (rec kd pl f t) = (eqb kd kind && eqb pl p) && spans t f 
 -- how many do; `true` asks for those towards greater coordinates
 unfoldable pub passingN : ℕ → ℕ → ℕ → Bool → List (Record ℕ) → ℕ
 passingN kind p k d rs = sumOf (λ r. bit (passesN kind p k d r)) rs
-
-abbrev pub goes : Bool → Dir → ℕ
-goes true d = east d
-goes false d = west d
 
 part : (t a b c : Bool) → bit a + bit b ≡ bit c → bit (t && a) + bit (t && b) ≡ bit (t && c)
 part true a b c e = e

@@ -3,6 +3,7 @@
 --   inside holds es i j   cell (i, j) is inside: `holds`, the expression, is true of the layers covering it
 --   Dir                   off: no piece; fwd: towards greater coordinates; bwd: towards lesser ones
 --   turn right left       the direction of a unit piece, from what lies on the right and on the left of going forward
+--   goes d e              1 where e is the direction d (true: forward), else 0
 --   level g y i           the piece of the horizontal at y over column i, for the set of cells g
 --   upright g x j         the piece of the vertical at x beside row j
 --   Within L g            no cell of g lies outside the coordinate range
@@ -28,6 +29,14 @@ turn true true = off
 turn true false = fwd
 turn false true = bwd
 turn false false = off
+
+abbrev pub goes : Bool → Dir → ℕ
+goes true off = 0
+goes true fwd = 1
+goes true bwd = 0
+goes false off = 0
+goes false fwd = 0
+goes false bwd = 1
 
 -- going east, the cell below is on the right
 unfoldable pub level : (ℤ → ℤ → Bool) → ℤ → ℤ → Dir

@@ -117,13 +117,15 @@ unfoldable pub before : Record ℤ → Record ℤ → Bool
 before (rec kd pl f t) (rec ke pm u v) =
     ltb kd ke || (eqb kd ke && (ltZ pl pm || (eqZ pl pm && apart (rec kd pl f t) (rec ke pm u v))))
 
-pub record Proper (r : Record ℤ) : Type 0 where
-  pub ends : ltZ (lesser r) (greater r) ≡ true
+-- r stands before the first of rs
+abbrev pub Ahead : Record ℤ → List (Record ℤ) → Type 0
+Ahead r [] = Unit {0}
+Ahead r (s ∷ rs) = before r s ≡ true
 
-pub data InOrder : List (Record ℤ) → Type 0 where
-  empty : InOrder []
-  alone : {r : Record ℤ} → Proper r → InOrder (r ∷ [])
-  next : {r s : Record ℤ} {rs : List (Record ℤ)} → Proper r → before r s ≡ true → InOrder (s ∷ rs) → InOrder (r ∷ s ∷ rs)
+-- each record has a length, and stands before its neighbour
+abbrev pub InOrder : List (Record ℤ) → Type 0
+InOrder [] = Unit {0}
+InOrder (r ∷ rs) = (ltZ (lesser r) (greater r) ≡ true) × Ahead r rs × InOrder rs
 
 -- ---- a result put in as a layer
 

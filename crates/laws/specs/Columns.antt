@@ -1,0 +1,67 @@
+-- Corners and columns over whole numbers: every edge is a corner at its `to` and one at its `from`. Assumes nothing.
+--
+--   toUpTo i, fromUpTo i    the edge's to (from) is at most i
+--   corners                 CORNERS: a layer's count at (i, j) is the number of its to-corners up to i and j, less that of its from-corners
+--   columns                 the same of whole columns
+--   closed-up-to, up-to-closed   CLOSED: a list is closed exactly when each layer has as many to- as from-corners up to each column
+use mathlib.Core.Path.{_≡_, refl, sym, ap, _∙_}
+use mathlib.Core.Bool.{Bool, true, false, not, _&&_}
+use mathlib.Core.List.{List, [], _∷_}
+use Prim.Native.Nat.{ℕ, zero, suc, _+_}
+use native.Mathlib.Omega.{arith}
+use lib.IntN.{ℤ, pos, negsuc}
+use lib.Signed.{leZ, ltZ}
+use Rattle.meaning.specs.Numbers.{bit}
+use Rattle.meaning.specs.Edges.{Edge, edge, west, east, on, upTo, number, wests, easts, Closed}
+use Rattle.basics.specs.Signed.{not-leZ}
+
+unfoldable pub toUpTo : ℤ → Edge ℤ → Bool
+toUpTo i (edge l y f t) = leZ t i
+
+unfoldable pub fromUpTo : ℤ → Edge ℤ → Bool
+fromUpTo i (edge l y f t) = leZ f i
+
+-- the tests of one edge: p its layer, a and b its ends, q its height
+one-column : (p a b : Bool) → bit (p && (b && not a)) + bit (p && a) ≡ bit (p && (a && not b)) + bit (p && b)
+one-column false a b = refl
+one-column true true true = refl
+one-column true true false = refl
+one-column true false true = refl
+one-column true false false = refl
+
+one-corner : (p q a b : Bool) → bit ((p && (b && not a)) && q) + bit ((p && a) && q) ≡ bit ((p && (a && not b)) && q) + bit ((p && b) && q)
+one-corner false q a b = refl
+one-corner true q true true = refl
+one-corner true q false false = refl
+one-corner true true true false = refl
+one-corner true true false true = refl
+one-corner true false true false = refl
+one-corner true false false true = refl
+
+pub corners : (es : List (Edge ℤ)) (c : ℕ) (i j : ℤ)
+    → wests es c i j + number (λ e. (on c e && fromUpTo i e) && upTo j e) es ≡ easts es c i j + number (λ e. (on c e && toUpTo i e) && upTo j e) es
+unfolding wests easts number west east toUpTo fromUpTo
+corners [] c i j = refl
+corners (edge l y f t ∷ es) c i j =
+    let e = edge l y f t in
+    let h : bit ((on c e && (leZ t i && ltZ i f)) && upTo j e) + bit ((on c e && leZ f i) && upTo j e) ≡ bit ((on c e && (leZ f i && ltZ i t)) && upTo j e) + bit ((on c e && leZ t i) && upTo j e) =
+    rw (not-leZ i f, not-leZ i t) (one-corner (on c e) (upTo j e) (leZ f i) (leZ t i)) in
+    omega (arith, h, corners es c i j)
+
+pub columns : (es : List (Edge ℤ)) (c : ℕ) (i : ℤ)
+    → number (λ e. on c e && west i e) es + number (λ e. on c e && fromUpTo i e) es ≡ number (λ e. on c e && east i e) es + number (λ e. on c e && toUpTo i e) es
+unfolding number west east toUpTo fromUpTo
+columns [] c i = refl
+columns (edge l y f t ∷ es) c i =
+    let e = edge l y f t in
+    let h : bit (on c e && (leZ t i && ltZ i f)) + bit (on c e && leZ f i) ≡ bit (on c e && (leZ f i && ltZ i t)) + bit (on c e && leZ t i) =
+    rw (not-leZ i f, not-leZ i t) (one-column (on c e) (leZ f i) (leZ t i)) in
+    omega (arith, h, columns es c i)
+
+pub closed-up-to : (es : List (Edge ℤ)) → Closed es → (c : ℕ) (i : ℤ) → number (λ e. on c e && fromUpTo i e) es ≡ number (λ e. on c e && toUpTo i e) es
+unfolding Closed
+closed-up-to es h c i = omega (arith, columns es c i, h c i)
+
+pub up-to-closed : (es : List (Edge ℤ)) → ((c : ℕ) (i : ℤ) → number (λ e. on c e && fromUpTo i e) es ≡ number (λ e. on c e && toUpTo i e) es) → Closed es
+unfolding Closed
+up-to-closed es h c i = omega (arith, columns es c i, h c i)

@@ -1,0 +1,10 @@
+-- What is shown of the definitions of `meaning`, over whole numbers.
+pub mod Columns
+pub mod View
+pub mod Covered
+pub mod Ends
+pub mod Listed
+pub mod Ordered
+pub mod OnlyOne
+pub mod Parts
+pub mod Areas
