@@ -1,13 +1,13 @@
 -- Tests on numbers as truth values: both halves of an `&&`, and a number's place beside a stretch. Assumes nothing.
 --
 --   and-left, and-right   what `p && q` says of each half
---   and-off, and-on       `&&` with a half that is known
+--   and-off, and-on, or-true   `&&` and `||` with a half that is known
 --   not-leb               below is not at-or-above
 --   leb-same, eqb-same    two tests that hold together are equal
 --   spans l h k           k is in the stretch from l up to h, h not included
 --   spans-in, ..          its value by where k lies; `place` has the three cases
 use mathlib.Core.Path.{_≡_, refl, sym, _∙_}
-use mathlib.Core.Bool.{Bool, true, false, not, _&&_, false≢true}
+use mathlib.Core.Bool.{Bool, true, false, not, _&&_, _||_, false≢true}
 use Prim.Native.Nat.{ℕ, _+_, _≤_, _<_}
 use native.Mathlib.Omega.{arith}
 use native.Mathlib.Decide.{decLt}
@@ -30,6 +30,10 @@ and-off false = refl
 pub and-on : (p : Bool) → (p && true) ≡ p
 and-on true = refl
 and-on false = refl
+
+pub or-true : (p : Bool) → (p || true) ≡ true
+or-true true = refl
+or-true false = refl
 
 pub not-leb : (k h : ℕ) → ltb k h ≡ not (leb h k)
 not-leb k h = go (decLt k h)

@@ -15,3 +15,4 @@ pub mod ClosedTest
 pub mod Rows
 pub mod Scan
 pub mod Corners
+pub mod Points

@@ -1,4 +1,5 @@
--- What is shown of the definitions of `meaning`, over whole numbers.
+-- What is shown of the definitions of `meaning`, over whole numbers. `Front` names every law.
+pub mod Front
 pub mod Columns
 pub mod View
 pub mod Covered

@@ -3,7 +3,8 @@
 --
 --   InRange L r     the record's place and ends are coordinates
 --   only-one        ONE LIST: in order, in range and with the same pieces, so the same list
---   one-result      so a list in order that lists a piece exactly when its side cells differ is the result
+--   result-in-range the result is in range
+--   one-result      THE RESULT IS THE ONE: a list in order, in range, that lists a piece exactly when its side cells differ
 use mathlib.Core.Path.{_≡_, refl, sym, ap, ap₂, _∙_, subst}
 use mathlib.Core.Logic.{_≢_, _⊎_, inl, inr}
 use mathlib.Core.Bool.{Bool, true, false, not, _&&_, _||_, true≢false, false≢true}
@@ -19,17 +20,18 @@ use borrow.Author.Tests.{lt-ltb, le-ltb, eq-eqb, ne-eqb, ltb-true, ltb-false, eq
 use Rattle.meaning.specs.Numbers.{bit, pick, eqZ, inRange, step}
 use Rattle.meaning.specs.Edges.{number}
 use Rattle.meaning.specs.Cells.{Dir, off, fwd, bwd, goes, level, upright, Within}
-use Rattle.meaning.specs.Records.{Run, run, sameDir, Record, rec, result, lesser, greater, same, apart, before, passing, Ahead, InOrder}
+use Rattle.meaning.specs.Records.{Run, run, sameDir, Record, rec, kindOf, result, passes, lesser, greater, same, apart, before, passing, Ahead, InOrder}
 use Rattle.basics.specs.Tests.{and-left, and-right, and-off, and-on, leb-same, spans, spans-in, spans-below, spans-above, spans-empty}
-use Rattle.basics.specs.Lists.{All, all-map, all-to-map, number-none, number-to-map, number-same}
+use Rattle.basics.specs.Lists.{All, all-map, all-append, all-to-map, number-none}
 use Rattle.basics.specs.Signed.{eqZ-refl}
-use Rattle.basics.specs.Steps.{lift, step-lt, step-eq, step-lift, lift-le}
+use Rattle.basics.specs.Steps.{lift, step-lt, step-eq, step-range, step-lift, lift-le}
 use Rattle.grid.specs.OneLine.{Good, dirAt, unique, fwd≢off, bwd≢off}
+use Rattle.grid.specs.Plane.{resultN}
 use Rattle.grid.specs.Sums.{sumOf}
 use Rattle.grid.specs.Pieces.{passesN, passingN}
 use Rattle.laws.specs.View.{view, lowered, result-view}
 use Rattle.laws.specs.Listed.{Inner, result-inner, passing-view, level-listed, upright-listed}
-use Rattle.laws.specs.Ordered.{result-in-order}
+use Rattle.laws.specs.Ordered.{From, lines-from, result-in-order}
 
 -- ---- two numbers in one: rows of m
 
@@ -371,3 +373,44 @@ only-one L rs ss o u a b h =
     ∙ ap (passing kind (step L p) (step L k) d) (sym y) ∙ passing-view L kind p k d (map (lifted L) ss))
     (subst InOrder (sym x) o) (subst InOrder (sym y) u) in
     sym x ∙ ap (map (lowered L)) e ∙ y
+
+-- ---- the result is the one
+
+abbrev pub AKind : Record ℤ → Type 0
+AKind (rec kind p f t) = kind ≤ 1
+
+result-kinds : (L : ℕ) (g : ℤ → ℤ → Bool) → All AKind (result L g)
+unfolding result kindOf
+result-kinds L g =
+    all-append AKind (kindOf L 0 (level g)) (kindOf L 1 (upright g))
+    (all-map (From L 0 0) AKind (kindOf L 0 (level g)) (λ r h. kind-of 0 r (omega arith) h) (lines-from L 0 (λ p k. level g (step L p) (step L k)) (2 * L) 0 (suc (2 * L))))
+    (all-map (From L 1 0) AKind (kindOf L 1 (upright g)) (λ r h. kind-of 1 r (omega arith) h) (lines-from L 1 (λ p k. upright g (step L p) (step L k)) (2 * L) 0 (suc (2 * L))))
+  where
+    kind-of : (kind : ℕ) (r : Record ℤ) → kind ≤ 1 → From L kind 0 r → AKind r
+    kind-of kind (rec kd p f t) l h = omega (arith, h .0)
+
+pub result-in-range : (L : ℕ) (g : ℤ → ℤ → Bool) → Within L g → All (InRange L) (result L g)
+result-in-range L g w =
+    subst (All (InRange L)) (sym (result-view L g w))
+    (all-to-map (InRange L) (lowered L) (resultN (2 * L) (view L g)) (all-map (Inner (2 * L)) (λ r. InRange L (lowered L r)) (resultN (2 * L) (view L g)) one (result-inner (2 * L) (view L g))))
+  where
+    one : (r : Record ℕ) → Inner (2 * L) r → InRange L (lowered L r)
+    one (rec kind p f t) h = (step-range L p (h .0), step-range L f (h .1), step-range L t (h .2))
+
+-- a kind that no record has
+no-kind : (kind : ℕ) (p k : ℤ) (d : Bool) (rs : List (Record ℤ)) → 1 < kind → All AKind rs → passing kind p k d rs ≡ 0
+unfolding passing passes
+no-kind kind p k d rs l a = number-none (passes kind p k d) rs (all-map AKind (λ r. passes kind p k d r ≡ false) rs (one d) a)
+  where
+    one : (d : Bool) (r : Record ℤ) → AKind r → passes kind p k d r ≡ false
+    one true (rec kd pl f t) h = rw (ne-eqb kd kind (λ e. omega arith))
+    one false (rec kd pl f t) h = rw (ne-eqb kd kind (λ e. omega arith))
+
+pub one-result : (L : ℕ) (g : ℤ → ℤ → Bool) → Within L g → (rs : List (Record ℤ)) → InOrder rs → All (InRange L) rs → All AKind rs
+    → ((y i : ℤ) (d : Bool) → passing 0 y i d rs ≡ goes d (level g y i)) → ((x j : ℤ) (d : Bool) → passing 1 x j d rs ≡ goes d (upright g x j)) → rs ≡ result L g
+one-result L g w rs o a k h v = only-one L rs (result L g) o (result-in-order L g) a (result-in-range L g w) piece
+  where
+    piece : (kind : ℕ) (p q : ℤ) (d : Bool) → passing kind p q d rs ≡ passing kind p q d (result L g)
+    piece zero p q d = h p q d ∙ sym (level-listed L g w p q d)
+    piece (suc zero) p q d = v p q d ∙ sym (upright-listed L g w p q d)
+    piece (suc (suc n)) p q d = no-kind (suc (suc n)) p q d rs (omega arith) k ∙ sym (no-kind (suc (suc n)) p q d (result L g) (omega arith) (result-kinds L g))

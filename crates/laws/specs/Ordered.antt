@@ -16,6 +16,7 @@ use borrow.Author.Tests.{lt-ltb, le-ltb, eq-eqb}
 use Rattle.meaning.specs.Numbers.{pick, eqZ, step}
 use Rattle.meaning.specs.Cells.{Dir, off, fwd, bwd, level, upright}
 use Rattle.meaning.specs.Records.{Run, run, line, Record, rec, recordOf, each, kindOf, result, lesser, greater, forward, same, apart, before, Ahead, InOrder}
+use Rattle.basics.specs.Tests.{or-true}
 use Rattle.basics.specs.Lists.{All, all-map, all-append}
 use Rattle.basics.specs.Signed.{eqZ-yes, eqZ-refl}
 use Rattle.basics.specs.Steps.{step-lt}
@@ -62,10 +63,6 @@ apart-far r s a b c e d w x y h = rw (x .high, y .low, h)
 
 apart-turn : (r s : Record ℤ) (a b c e : ℤ) (d w : Bool) → Shape r a b d → Shape s c e w → eqZ b c ≡ true → same d w ≡ false → apart r s ≡ true
 apart-turn r s a b c e d w x y h k = rw (x .high, y .low, x .way, y .way, h, k) (or-true (ltZ b c))
-  where
-    or-true : (t : Bool) → (t || true) ≡ true
-    or-true true = refl
-    or-true false = refl
 
 differ : (d e : Dir) → d ≢ off → e ≢ off → e ≢ d → same (ahead d) (ahead e) ≡ false
 differ off e n m k = absurd (n refl)
@@ -80,12 +77,6 @@ same-line : (L kind p l h : ℕ) (d : Dir) (l′ h′ : ℕ) (e : Dir) → l < h
     → apart (recordOf (step L) kind (step L p) (run l h d)) (recordOf (step L) kind (step L p) (run l′ h′ e)) ≡ true
 same-line L kind p l h d l′ h′ e u n g = go (decLt h l′)
   where
-    r : Record ℤ
-    r = recordOf (step L) kind (step L p) (run l h d)
-
-    s : Record ℤ
-    s = recordOf (step L) kind (step L p) (run l′ h′ e)
-
     go : Dec (h < l′) → apart (recordOf (step L) kind (step L p) (run l h d)) (recordOf (step L) kind (step L p) (run l′ h′ e)) ≡ true
     go (yes v) = apart-far _ _ (step L l) (step L h) (step L l′) (step L h′) (ahead d) (ahead e) (shape L kind p l h d u n) (shape L kind p l′ h′ e (g .1) (g .2)) (up L h l′ v)
     go (no v) =
@@ -97,10 +88,6 @@ same-line L kind p l h d l′ h′ e u n g = go (decLt h l′)
 on-line : (kind : ℕ) (z f t u v : ℤ) → apart (rec kind z f t) (rec kind z u v) ≡ true → before (rec kind z f t) (rec kind z u v) ≡ true
 unfolding before
 on-line kind z f t u v h = rw (h, le-ltb kind kind (omega arith), eq-eqb kind kind refl, eqZ-refl z) (or-true (ltZ z z))
-  where
-    or-true : (t : Bool) → (t || true) ≡ true
-    or-true true = refl
-    or-true false = refl
 
 on-line-runs : (L kind p l h : ℕ) (d : Dir) (l′ h′ : ℕ) (e : Dir)
     → apart (recordOf (step L) kind (step L p) (run l h d)) (recordOf (step L) kind (step L p) (run l′ h′ e)) ≡ true
@@ -133,7 +120,7 @@ line-in-order L kind p a d (run l h e ∷ run l′ h′ e′ ∷ rs) g =
 abbrev At : ℕ → ℤ → Record ℤ → Type 0
 At kind z (rec kd p f t) = (kd ≡ kind) × (p ≡ z)
 
-abbrev From : ℕ → ℕ → ℕ → Record ℤ → Type 0
+abbrev pub From : ℕ → ℕ → ℕ → Record ℤ → Type 0
 From L kind a (rec kd p f t) = (kd ≡ kind) × ((n : ℕ) × (a ≤ n) × (p ≡ step L n))
 
 line-at : (L kind p : ℕ) (rs : List Run) → All (At kind (step L p)) (map (recordOf (step L) kind (step L p)) rs)
@@ -146,10 +133,6 @@ later-line : (L kind a : ℕ) (r s : Record ℤ) → At kind (step L a) r → Fr
 unfolding before
 later-line L kind a (rec kd p f t) (rec ke q u v) x y =
     rw (x .0, x .1, y .0, y .1 .2, eq-eqb kind kind refl, up L a (y .1 .0) (y .1 .1)) (or-true (ltb kind kind))
-  where
-    or-true : (t : Bool) → (t || true) ≡ true
-    or-true true = refl
-    or-true false = refl
 
 module _ (L kind : ℕ) (F : ℕ → ℕ → Dir) (N : ℕ) where
   abbrev one-line : ℕ → List (Record ℤ)
@@ -161,7 +144,7 @@ module _ (L kind : ℕ) (F : ℕ → ℕ → Dir) (N : ℕ) where
   from-from : (a : ℕ) (r : Record ℤ) → From L kind (suc a) r → From L kind a r
   from-from a (rec kd p f t) x = (x .0, (x .1 .0, omega (arith, x .1 .1), x .1 .2))
 
-  lines-from : (a n : ℕ) → All (From L kind a) (each one-line a n)
+  pub lines-from : (a n : ℕ) → All (From L kind a) (each one-line a n)
   unfolding each
   lines-from a zero = tt
   lines-from a (suc n) =

@@ -4,6 +4,7 @@
 --   put-in-adds      A RESULT AS A LAYER: its count is 1 at each of its cells and 0 elsewhere
 --   put-in-other     other layers have nothing of it
 --   put-in-closed    it is closed
+--   kinds-even       AS MANY OF EACH KIND: as many horizontal records as vertical ones
 --   by-parts         WORK BY PARTS, cell by cell
 --   cells-and-or     AND PLUS OR: their cells are those of both
 use mathlib.Core.Path.{_≡_, refl, sym, ap, ap₂, _∙_, subst, fun-ext}
@@ -15,6 +16,7 @@ use native.Mathlib.Omega.{arith}
 use native.Mathlib.Decide.{decLt}
 use native.Mathlib.Nat.{zero-add, add-zero}
 use lib.Dec.{eqb}
+use lib.ListN.{length, length-map}
 use lib.IntN.{ℤ, pos, natAbs, negℤ, _-ℤ_}
 use lib.Signed.{leZ, ltZ}
 use borrow.Author.Tests.{le-leb, ne-eqb, eqb-true, eqb-false}
@@ -27,12 +29,13 @@ use Rattle.basics.specs.Tests.{and-off}
 use Rattle.basics.specs.Lists.{All, all-map, number-none, number-append}
 use Rattle.basics.specs.Signed.{lt-le}
 use Rattle.basics.specs.Steps.{lift, lift-step, step-range, step-lift, beyond}
-use Rattle.grid.specs.Plane.{westsN, eastsN, levelN, kindN, ClosedN}
+use Rattle.grid.specs.Plane.{westsN, eastsN, levelN, uprightN, kindN, ClosedN}
 use Rattle.grid.specs.Covering.{covers-one}
 use Rattle.grid.specs.AsLayer.{asEdge as asEdgeN, asLayer, layer, layer-other, cells-and-or as cells-and-or-steps}
 use Rattle.grid.specs.AreaLaws.{cellsN}
+use Rattle.grid.specs.Points.{as-many}
 use Rattle.grid.specs.Beside.{layer-adds, layer-closed}
-use Rattle.laws.specs.View.{view, lowered, levels-view, within-bounded}
+use Rattle.laws.specs.View.{view, lowered, levels-view, uprights-view, within-bounded}
 use Rattle.laws.specs.Covered.{Sound, liftEdge, wests-view, easts-view, outside-even, view-closed}
 use Rattle.laws.specs.Listed.{Inner, all-each, kind-inner}
 
@@ -155,6 +158,14 @@ on-other b c (rec (suc k) p f t ∷ rs) h = on-other b c rs h
 
 pub put-in-other : (b c : ℕ) (rs : List (Record ℤ)) → eqb b c ≡ false → (i j : ℤ) → (wests (putIn c rs) b i j ≡ 0) × (easts (putIn c rs) b i j ≡ 0)
 put-in-other b c rs h i j = absent b (putIn c rs) (on-other b c rs h) i j
+
+-- ---- as many of each kind
+
+pub kinds-even : (L : ℕ) (g : ℤ → ℤ → Bool) → Within L g → length (kindOf L 0 (level g)) ≡ length (kindOf L 1 (upright g))
+kinds-even L g w =
+    ap length (levels-view L g w) ∙ length-map (kindN 0 (levelN (view L g)) (2 * L)) (lowered L)
+    ∙ as-many (2 * L) (view L g) (within-bounded L g w)
+    ∙ sym (ap length (uprights-view L g w) ∙ length-map (kindN 1 (uprightN (view L g)) (2 * L)) (lowered L))
 
 -- ---- beside other edges
 

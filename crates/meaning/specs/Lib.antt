@@ -5,3 +5,5 @@ pub mod Edges
 pub mod Cells
 pub mod Records
 pub mod Area
+pub mod Drawn
+pub mod Spots

@@ -5,6 +5,7 @@
 --   eqZ a b        the numbers a and b are equal
 --   limit          the coordinate limit, 2^30
 --   inRange L z    z is from -L to L
+--   zeroTo n z     z is from 0 to n
 --   step L n       the number that lies n steps above -L
 --
 -- The limit stands behind one name, and every law is over any limit L.
@@ -33,6 +34,10 @@ limit = 2 ^ 30
 
 abbrev pub inRange : ℕ → ℤ → Bool
 inRange L z = leb (natAbs z) L
+
+abbrev pub zeroTo : ℕ → ℤ → Bool
+zeroTo n (pos k) = leb k n
+zeroTo n (negsuc k) = false
 
 unfoldable pub step : ℕ → ℕ → ℤ
 step L n = pos n -ℤ pos L

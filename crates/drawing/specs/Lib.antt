@@ -1,0 +1,2 @@
+-- What `draw` promises. Definitions only.
+pub mod Drawing
