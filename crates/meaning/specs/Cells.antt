@@ -1,5 +1,6 @@
 -- Which cells are inside, and which unit pieces of edge lie between an inside cell and another.
 --
+--   handed es i j         what is handed to the evaluator at cell (i, j): which layers cover it
 --   inside holds es i j   cell (i, j) is inside: `holds`, the expression, is true of the layers covering it
 --   Dir                   off: no piece; fwd: towards greater coordinates; bwd: towards lesser ones
 --   turn right left       the direction of a unit piece, from what lies on the right and on the left of going forward
@@ -14,11 +15,16 @@ use Prim.Native.Nat.{ℕ}
 use lib.IntN.{ℤ, pos, predℤ, negℤ}
 use lib.Signed.{leZ, ltZ}
 use Rattle.meaning.specs.Edges.{Edge, count, covers}
+use Rattle.meaning.specs.Expression.{Handed}
+
+-- what covers cell (i, j), as the evaluator of an expression takes it
+abbrev pub handed : List (Edge ℤ) → ℤ → ℤ → Handed
+handed es i j c = covers (count es c i j)
 
 -- "Cell (i, j) is the square from (i, j) to (i+1, j+1)."
 -- "A unit cell is inside the result exactly when the expression holds of the layers covering it"
-unfoldable pub inside : ((ℕ → Bool) → Bool) → List (Edge ℤ) → ℤ → ℤ → Bool
-inside holds es i j = holds (λ c. covers (count es c i j))
+unfoldable pub inside : (Handed → Bool) → List (Edge ℤ) → ℤ → ℤ → Bool
+inside holds es i j = holds (handed es i j)
 
 pub data Dir : Type 0 where
   off fwd bwd : Dir

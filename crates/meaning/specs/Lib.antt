@@ -2,8 +2,10 @@
 pub mod Numbers
 pub mod Answers
 pub mod Edges
+pub mod Expression
 pub mod Cells
 pub mod Records
 pub mod Area
+pub mod Calls
 pub mod Drawn
 pub mod Spots

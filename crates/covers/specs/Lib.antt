@@ -1,0 +1,2 @@
+-- What the steps of `depends` compute.
+pub mod Changing

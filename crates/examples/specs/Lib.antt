@@ -1,0 +1,2 @@
+-- The checked examples of document 01.
+pub mod Shown

@@ -1,0 +1,2 @@
+-- What the verdicts stand for.
+pub mod Verdicts

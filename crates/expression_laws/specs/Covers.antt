@@ -1,0 +1,226 @@
+-- The laws of covers as bytes, of the table and of the layers on which an expression depends. Assumes nothing.
+--
+--   byteOf-below         a byte is below 256
+--   cover-byte           every cover is, as far as the eight layers go, the cover of its byte
+--   byte-cover           a byte is the byte of its cover
+--   one-byte             bytes of one cover are equal
+--   one-cover            so every cover is, as far as the eight layers go, that of exactly one byte
+--   no-cover             the byte 0 says that nothing covers
+--   one-table            tables of one text are equal
+--   looked-up            the table tells the value at every cover
+--   means-looked-up      and of a text in the grammar it tells a value
+--   one-letters          bytes that say with which layers the entries change are equal
+--   depends-changes      the entries change with a layer on which the text depends
+--   changes-depends      and with no other
+--   letters-depend       so a byte that says with which layers the entries of a text change says on which layers the text depends
+--   unseen               layers on which a text does not depend have no part in its value
+--   left-out             layers with which the entries do not change have no part in them
+use mathlib.Core.Path.{_≡_, refl, sym, ap, _∙_}
+use mathlib.Core.Logic.{_⊎_, inl, inr}
+use mathlib.Core.Bool.{Bool, true, false, not, true≢false, false≢true}
+use mathlib.Core.List.{List}
+use Prim.Native.Nat.{ℕ, zero, suc, _≤_, _<_}
+use native.Mathlib.Nat.{zero-div}
+use native.Mathlib.Omega.{arith}
+use native.Mathlib.Decide.{decLt}
+use lib.Dec.{ltb}
+use lib.ListN.{getD}
+use lib.Seq.{ext-getD}
+use borrow.Author.Tests.{lt-ltb, le-ltb}
+use Rattle.meaning.specs.Numbers.{pick}
+use Rattle.meaning.specs.Expression.{Handed, nothing, eval, InGrammar, Means, Depends}
+use Rattle.basics.specs.Bits.{bitAt, ofBits-below, ofBits-same, bitAt-ofBits, ofBits-bitAt}
+use Rattle.expression_laws.specs.Cover.{coverOf, byteOf, Entry, Table, Changes, Letters}
+use Rattle.expression_laws.specs.Meanings.{one-value, decided, means-at, means-same}
+
+-- ---- bytes
+
+pub byteOf-below : (h : Handed) → byteOf h < 256
+byteOf-below h = ofBits-below 8 h
+
+pub cover-byte : (h : Handed) (l : ℕ) → l < 8 → coverOf (byteOf h) l ≡ h l
+cover-byte h l k = bitAt-ofBits 8 h l k
+
+pub byte-cover : (m : ℕ) → m < 256 → byteOf (coverOf m) ≡ m
+byte-cover m k = ofBits-bitAt 8 m k
+
+pub byte-same : (g h : Handed) → ((l : ℕ) → l < 8 → g l ≡ h l) → byteOf g ≡ byteOf h
+byte-same g h e = ofBits-same 8 g h e
+
+pub one-byte : (m n : ℕ) → m < 256 → n < 256 → ((l : ℕ) → l < 8 → coverOf m l ≡ coverOf n l) → m ≡ n
+one-byte m n a b e = sym (byte-cover m a) ∙ byte-same (coverOf m) (coverOf n) e ∙ byte-cover n b
+
+pub one-cover : (h : Handed) → (m : ℕ) × (m < 256) × ((l : ℕ) → l < 8 → coverOf m l ≡ h l) × ((n : ℕ) → n < 256 → ((l : ℕ) → l < 8 → coverOf n l ≡ h l) → n ≡ m)
+one-cover h = (byteOf h, byteOf-below h, cover-byte h, λ n u e. one-byte n (byteOf h) u (byteOf-below h) (λ l k. e l k ∙ sym (cover-byte h l k)))
+
+zero-bit : (l : ℕ) → coverOf 0 l ≡ false
+unfolding bitAt
+zero-bit l = simp zero-div
+
+pub no-cover : {s : List ℕ} {v : Bool} → Means s (coverOf 0) v → Means s nothing v
+no-cover m = means-same (coverOf 0) nothing (λ l _. zero-bit l) m
+
+-- ---- the table
+
+one-entry : (s : List ℕ) (h : Handed) (v w : Bool) → Entry s h v → Entry s h w → v ≡ w
+one-entry s h v w (inl x) (inl y) = one-value s x y
+one-entry s h v w (inl x) (inr y) = absurd (y .0 (x .expr, x .is))
+one-entry s h v w (inr x) (inl y) = absurd (x .0 (y .expr, y .is))
+one-entry s h v w (inr x) (inr y) = x .1 ∙ sym (y .1)
+
+pub one-table : (s : List ℕ) (t u : List Bool) → Table s t → Table s u → t ≡ u
+one-table s t u a b =
+    ext-getD false t u (a .size ∙ sym (b .size))
+    (λ m k. let n : m < 256 = (let e = a .size in omega arith) in one-entry s (coverOf m) (getD t m false) (getD u m false) (a .each m n) (b .each m n))
+
+entry-means : (s : List ℕ) (h : Handed) (v : Bool) → InGrammar s → Entry s h v → Means s h v
+entry-means s h v x (inl m) = m
+entry-means s h v x (inr y) = absurd (y .0 x)
+
+module _ {s : List ℕ} {truth : List Bool} (t : Table s truth) where
+  pub means-looked-up : InGrammar s → (h : Handed) → Means s h (getD truth (byteOf h) false)
+  means-looked-up x h =
+      means-same (coverOf (byteOf h)) h (λ l k. cover-byte h l k)
+      (entry-means s (coverOf (byteOf h)) (getD truth (byteOf h) false) x (t .each (byteOf h) (byteOf-below h)))
+
+  pub looked-up : (h : Handed) {v : Bool} → Means s h v → getD truth (byteOf h) false ≡ v
+  looked-up h m = one-value s (means-looked-up (m .expr, m .is) h) m
+
+  outside : (InGrammar s → ⊥) → (h : Handed) → getD truth (byteOf h) false ≡ false
+  outside f h = go (t .each (byteOf h) (byteOf-below h))
+    where
+      go : Entry s (coverOf (byteOf h)) (getD truth (byteOf h) false) → getD truth (byteOf h) false ≡ false
+      go (inl m) = absurd (f (m .expr, m .is))
+      go (inr y) = y .1
+
+-- ---- the layers on which an expression depends
+
+not-same : (v : Bool) → v ≡ not v → ⊥
+not-same true e = true≢false e
+not-same false e = false≢true e
+
+other-value : (v w : Bool) → (v ≡ w → ⊥) → not v ≡ w
+other-value true true f = absurd (f refl)
+other-value true false f = refl
+other-value false true f = refl
+other-value false false f = absurd (f refl)
+
+same-or-not : (v w : Bool) → (v ≡ w) ⊎ (v ≡ w → ⊥)
+same-or-not true true = inl refl
+same-or-not true false = inr true≢false
+same-or-not false true = inr false≢true
+same-or-not false false = inl refl
+
+pub depends-changes : {s : List ℕ} {truth : List Bool} → Table s truth → (l : ℕ) → Depends s l → Changes truth l
+depends-changes t l d =
+    record {
+      one = d .one;
+      other = d .other;
+      alike = d .alike;
+      differ = λ e. not-same (d .value) (sym (looked-up t (d .one) (d .at-one)) ∙ e ∙ looked-up t (d .other) (d .at-other));
+    }
+
+pub changes-depends : {s : List ℕ} {truth : List Bool} → Table s truth → (l : ℕ) → Changes truth l → Depends s l
+changes-depends {s} {truth} t l c = go (decided s)
+  where
+    go : Dec (InGrammar s) → Depends s l
+    go (yes x) =
+        record {
+          one = c .one;
+          other = c .other;
+          alike = c .alike;
+          value = getD truth (byteOf (c .one)) false;
+          at-one = means-looked-up t x (c .one);
+          at-other = rw (other-value (getD truth (byteOf (c .one)) false) (getD truth (byteOf (c .other)) false) (c .differ)) (means-looked-up t x (c .other));
+        }
+    go (no f) = absurd (c .differ (outside t f (c .one) ∙ sym (outside t f (c .other))))
+
+pub letters-depend : {s : List ℕ} {truth : List Bool} {r : ℕ} → Table s truth → Letters truth r → (l : ℕ) → l < 8
+    → (coverOf r l ≡ true → Depends s l) × (coverOf r l ≡ false → Depends s l → ⊥)
+letters-depend t a l u = ((λ e. changes-depends t l (a .changes l u e)), (λ e d. a .others l u e (depends-changes t l d)))
+
+pub one-letters : (truth : List Bool) (r q : ℕ) → Letters truth r → Letters truth q → r ≡ q
+one-letters truth r q a b = one-byte r q (a .below) (b .below) (λ l k. go l k (coverOf r l) refl (coverOf q l) refl)
+  where
+    go : (l : ℕ) → l < 8 → (x : Bool) → coverOf r l ≡ x → (y : Bool) → coverOf q l ≡ y → coverOf r l ≡ coverOf q l
+    go l k true e true f = e ∙ sym f
+    go l k true e false f = absurd (b .others l k f (a .changes l k e))
+    go l k false e true f = absurd (a .others l k e (b .changes l k f))
+    go l k false e false f = e ∙ sym f
+
+-- A value that looks at the eight layers alone, and two covers that agree on each layer with which it changes: one layer after the other is changed from g to h.
+module _ (worth : Handed → Bool) (sees : (a b : Handed) → ((l : ℕ) → l < 8 → a l ≡ b l) → worth a ≡ worth b) (g h : Handed)
+    (agree : (l : ℕ) → l < 8 → (one other : Handed) → ((k : ℕ) → (k ≡ l → ⊥) → one k ≡ other k) → (worth one ≡ worth other → ⊥) → g l ≡ h l) where
+  mix : ℕ → Handed
+  mix n k = pick (ltb k n) (h k) (g k)
+
+  mix-below : (n k : ℕ) → k < n → mix n k ≡ h k
+  unfolding mix
+  mix-below n k u = simp (lt-ltb k n u)
+
+  mix-above : (n k : ℕ) → n ≤ k → mix n k ≡ g k
+  unfolding mix
+  mix-above n k u = simp (le-ltb k n u)
+
+  mix-alike : (n k : ℕ) → (k ≡ n → ⊥) → mix n k ≡ mix (suc n) k
+  mix-alike n k f = go (decLt k n)
+    where
+      go : Dec (k < n) → mix n k ≡ mix (suc n) k
+      go (yes u) = mix-below n k u ∙ sym (mix-below (suc n) k (omega arith))
+      go (no u) = mix-above n k (omega arith) ∙ sym (mix-above (suc n) k (omega arith))
+
+  mix-all : (n : ℕ) → g n ≡ h n → (k : ℕ) → mix n k ≡ mix (suc n) k
+  mix-all n e k = go (decLt k n) (decLt n k)
+    where
+      go : Dec (k < n) → Dec (n < k) → mix n k ≡ mix (suc n) k
+      go (yes u) w = mix-alike n k (λ q. omega arith)
+      go (no u) (yes w) = mix-alike n k (λ q. omega arith)
+      go (no u) (no w) =
+          let q : k ≡ n = omega arith in
+          mix-above n k (omega arith) ∙ ap g q ∙ e ∙ ap h (sym q) ∙ sym (mix-below (suc n) k (omega arith))
+
+  mix-step : (n : ℕ) → n < 8 → worth (mix n) ≡ worth (mix (suc n))
+  mix-step n u = go (same-or-not (worth (mix n)) (worth (mix (suc n))))
+    where
+      go : (worth (mix n) ≡ worth (mix (suc n))) ⊎ (worth (mix n) ≡ worth (mix (suc n)) → ⊥) → worth (mix n) ≡ worth (mix (suc n))
+      go (inl e) = e
+      go (inr f) = sees (mix n) (mix (suc n)) (λ k _. mix-all n (agree n u (mix n) (mix (suc n)) (mix-alike n) f) k)
+
+  mix-to : (n : ℕ) → n ≤ 8 → worth (mix 0) ≡ worth (mix n)
+  mix-to zero u = refl
+  mix-to (suc n) u = mix-to n (omega arith) ∙ mix-step n (omega arith)
+
+  unchanged : worth g ≡ worth h
+  unchanged = sees g (mix 0) (λ l _. sym (mix-above 0 l (omega arith))) ∙ mix-to 8 (omega arith) ∙ sees (mix 8) h (λ l u. mix-below 8 l u)
+
+pub unseen : {s : List ℕ} {g h : Handed} {v w : Bool} → Means s g v → Means s h w → ((l : ℕ) → l < 8 → Depends s l → g l ≡ h l) → v ≡ w
+unseen {s} {g} {h} m n agree =
+    m .value
+    ∙ unchanged (λ k. eval k (m .expr)) (λ a b e. sees a b e) g h
+    (λ l u one other alike f.
+    agree l u
+    (record {
+      one = one;
+      other = other;
+      alike = alike;
+      value = eval one (m .expr);
+      at-one = means-at s x one;
+      at-other = rw (other-value (eval one (m .expr)) (eval other (m .expr)) f) (means-at s x other);
+    }))
+    ∙ one-value s (means-at s x h) n
+  where
+    x : InGrammar s
+    x = (m .expr, m .is)
+
+    sees : (a b : Handed) → ((l : ℕ) → l < 8 → a l ≡ b l) → eval a (m .expr) ≡ eval b (m .expr)
+    sees a b e = one-value s (means-same a b e (means-at s x a)) (means-at s x b)
+
+pub left-out : {truth : List Bool} {r : ℕ} → Letters truth r → (g h : Handed) → ((l : ℕ) → l < 8 → coverOf r l ≡ true → g l ≡ h l)
+    → getD truth (byteOf g) false ≡ getD truth (byteOf h) false
+left-out {truth} {r} t g h agree =
+    unchanged (λ k. getD truth (byteOf k) false) (λ a b e. ap (λ m. getD truth m false) (byte-same a b e)) g h
+    (λ l u one other alike f. go l u (coverOf r l) refl (record { one = one; other = other; alike = alike; differ = f }))
+  where
+    go : (l : ℕ) → l < 8 → (b : Bool) → coverOf r l ≡ b → Changes truth l → g l ≡ h l
+    go l u true e c = agree l u e
+    go l u false e c = absurd (t .others l u e c)

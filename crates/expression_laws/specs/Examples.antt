@@ -1,0 +1,85 @@
+-- The checked examples 5, 6, 12 and 14 of document 01, with some more texts, as one table under one theorem; and what its two sentences on grouping say. Assumes nothing.
+--
+--   examples      texts and their answers
+--   right         each answer is the one that the table of refusals gives
+--   grouped       `a-b*c` is (a and not b) and c; `a+b*c` is a or (b and c); `a-b-c` and `a^b+c` go from left to right; `!` binds tightest
+use mathlib.Core.Path.{_≡_, refl, subst}
+use mathlib.Core.Bool.{not, _&&_, _||_}
+use mathlib.Core.List.{List, [], _∷_, map}
+use Prim.Native.Nat.{ℕ}
+use native.Mathlib.Nat.{le-refl}
+use lib.ListN.{length}
+use Rattle.meaning.specs.Numbers.{pick}
+use Rattle.meaning.specs.Answers.{Answer, accepted, expression-length, too-deep, not-in-grammar, holds-on-nothing}
+use Rattle.meaning.specs.Expression.{bytes, Expr, Handed, eval, Means, Judged}
+use Rattle.expression_laws.specs.Reader.{got, a-sum, letterAt, read, reads}
+use Rattle.expression_laws.specs.Meanings.{read-whole}
+use Rattle.expression_laws.specs.Judging.{answerTo, answerTo-right}
+
+pub record Example : Type 0 where
+  pub text : List ℕ
+  pub answer : Answer
+
+abbrev example : List ℕ → Answer → Example
+example s r = record { text = s; answer = r }
+
+abbrev pub examples : List Example
+unfolding bytes
+examples =
+    -- 5
+    example (bytes "!a") holds-on-nothing
+    ∷ example (bytes "a+!a") holds-on-nothing
+    ∷ example (bytes "!a*b") (accepted 0)
+    -- 6
+    ∷ example (bytes "()") not-in-grammar
+    -- 12
+    ∷ example (bytes "((((((((((((((((a))))))))))))))))") (accepted 0)
+    ∷ example (bytes "(((((((((((((((((a)))))))))))))))))") too-deep
+    -- 14
+    ∷ example (bytes "a+a+a+a+a+a+a+a+a+a+a+a+a+a+a+a+a+a+a+a+a+a+a+a+a+a+a+a+a+a+a+a+a") expression-length
+    -- a beginning is counted from the front, and the whole text is one
+    ∷ example [] expression-length
+    ∷ example (bytes ")(((((((((((((((((") not-in-grammar
+    ∷ example (bytes "(((((((((((((((((") too-deep
+    ∷ example (bytes "a b") not-in-grammar
+    ∷ example (bytes "a*") not-in-grammar
+    ∷ example (bytes "i") not-in-grammar
+    ∷ []
+
+abbrev pub Right : List Example → Type 0
+Right [] = Unit {0}
+Right (x ∷ xs) = Judged (x .text) (x .answer) × Right xs
+
+computed : map (λ (x : Example). answerTo (x .text)) examples ≡ map (λ (x : Example). x .answer) examples
+unfolding bytes answerTo reads read letterAt eval
+computed = refl
+
+by-computing : (xs : List Example) → map (λ (x : Example). answerTo (x .text)) xs ≡ map (λ (x : Example). x .answer) xs → Right xs
+by-computing [] e = tt
+by-computing (x ∷ xs) e =
+    let p : answerTo (x .text) ≡ x .answer = cc in
+    let q : map (λ (y : Example). answerTo (y .text)) xs ≡ map (λ (y : Example). y .answer) xs = cc in
+    (subst (Judged (x .text)) p (answerTo-right (x .text)), by-computing xs q)
+
+pub right : Right examples
+right = by-computing examples computed
+
+-- ---- grouping
+
+meant : (s : List ℕ) (e : Expr) → reads s a-sum 0 ≡ got e (length s) → (h : Handed) → Means s h (eval h e)
+meant s e q h = record { expr = e; is = read-whole s q (le-refl (length s)); value = refl }
+
+pub grouped : (h : Handed)
+    → Means (bytes "a-b*c") h ((h 0 && not (h 1)) && h 2)
+    × Means (bytes "a+b*c") h (h 0 || (h 1 && h 2))
+    × Means (bytes "a-b-c") h ((h 0 && not (h 1)) && not (h 2))
+    × Means (bytes "a^b+c") h (pick (h 0) (not (h 1)) (h 1) || h 2)
+    × Means (bytes "!a*b") h (not (h 0) && h 1)
+unfolding bytes reads read letterAt eval
+grouped h = (
+  meant (bytes "a-b*c") _ refl h,
+  meant (bytes "a+b*c") _ refl h,
+  meant (bytes "a-b-c") _ refl h,
+  meant (bytes "a^b+c") _ refl h,
+  meant (bytes "!a*b") _ refl h,
+)

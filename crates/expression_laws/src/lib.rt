@@ -1,0 +1,1 @@
+// Laws and no program: the laws of the expression, in specs/.

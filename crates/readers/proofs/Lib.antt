@@ -1,0 +1,3 @@
+-- What the proofs of several functions use, and that pieces are equal.
+pub mod Pieces
+pub mod OnePiece

@@ -1,0 +1,2 @@
+-- What the readers' answers stand for.
+pub mod Pieces
