@@ -45,7 +45,7 @@ shown holds es = map (lowered limit) (resultAt (insideN holds (stepsOf es)) (sor
 unfoldable pub levels : ((ℕ → Bool) → Bool) → List (Edge ℤ) → List (Record ℕ)
 levels holds es = kindAt 0 (levelN (insideN holds (stepsOf es))) (sorted (ysOf (stepsOf es))) (sorted (xsOf (stepsOf es)))
 
-all-sound : (es : List (Edge ℤ)) → sound es ≡ true → Sound 7 limit es
+pub all-sound : (es : List (Edge ℤ)) → sound es ≡ true → Sound 7 limit es
 unfolding sound
 all-sound [] h = tt
 all-sound (e ∷ es) h = (and-left (soundEdge 7 limit e) (sound es) h, all-sound es (and-right (soundEdge 7 limit e) (sound es) h))

@@ -1,7 +1,7 @@
 -- Edges, the counts they make, and what covers a cell.
 --
 --   edge layer y from to   an input edge
---   edgesOf ns             the edges of a list of numbers, four to an edge
+--   edgesOf ns             the edges of a list of numbers, four to an edge; edgeNumbers es: the numbers of a list of edges
 --   west i e, east i e     e goes west (east) and spans column i
 --   on c e, upTo j e       e is of layer c; its y is at most j
 --   number p xs            how many of xs pass the test p
@@ -30,6 +30,10 @@ edgesOf (l ∷ []) = []
 edgesOf (l ∷ y ∷ []) = []
 edgesOf (l ∷ y ∷ f ∷ []) = []
 edgesOf (l ∷ y ∷ f ∷ t ∷ ns) = edge l y f t ∷ edgesOf ns
+
+unfoldable pub edgeNumbers : {A : Type 0} → List (Edge A) → List A
+edgeNumbers [] = []
+edgeNumbers (edge l y f t ∷ es) = l ∷ y ∷ f ∷ t ∷ edgeNumbers es
 
 -- "an edge going west (from > to) has opaque above it, one going east has it below"
 unfoldable pub west : ℤ → Edge ℤ → Bool

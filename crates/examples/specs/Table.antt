@@ -1,0 +1,135 @@
+-- The checked examples of document 01 that are proved, 1 to 10: one table, one meaning of right, one theorem.
+--
+--   Example    what an example says: a run with its records and area; a call that is accepted; a refusal; what a record is drawn as
+--   Right      what it means that an example is right, over the definitions
+--   table      the examples, to the letter; where one names no edge list it takes A and B, where it names no expression `a`
+--   checked    EVERY EXAMPLE IS RIGHT
+use mathlib.Core.Path.{_≡_, refl}
+use mathlib.Core.Bool.{Bool, true, false, _&&_}
+use mathlib.Core.List.{List, [], _∷_, _++_}
+use Prim.Native.Nat.{ℕ, _*_, _≤_}
+use native.Mathlib.Omega.{arith}
+use lib.Dec.{lit<}
+use lib.Ieee.{binary32, toBits}
+use lib.IntN.{ℤ, pos}
+use lib.ListN.{length, drop}
+use Rattle.meaning.specs.Numbers.{eqZ, step}
+use Rattle.meaning.specs.Answers.{Answer, accepted, not-closed, not-in-grammar, holds-on-nothing}
+use Rattle.meaning.specs.Edges.{edgesOf, covers, number, on, west, east, soundEdge, flat}
+use Rattle.meaning.specs.Expression.{bytes, eval}
+use Rattle.meaning.specs.Records.{numbersOf}
+use Rattle.meaning.specs.Calls.{outcome, Runs, Areas}
+use Rattle.basics.specs.Tests.{spans}
+use Rattle.basics.specs.Lists.{All}
+use Rattle.basics.specs.Steps.{lift}
+use Rattle.grid.specs.Plane.{goesWest, goesEast, upToN, westsN, eastsN, coversN, insideN, levelN, uprightN, lineAt, lineOver, eachOf, kindAt, resultAt, xsOf, ysOf, insertIf, insert, sorted}
+use Rattle.grid.specs.ClosedTest.{allBy, closedTest, closedOver, layersOf}
+use Rattle.grid.specs.Sums.{sumOf}
+use Rattle.expression_laws.specs.Reader.{letterAt, read, reads}
+use Rattle.expression_laws.specs.Judging.{answerTo}
+use Rattle.drawing.specs.Drawing.{Drawing}
+use Rattle.drawing.specs.declared.Floats.{Floats}
+use Rattle.drawing.specs.declared.Drawn.{Drawn}
+use Rattle.drawing.specs.declared.Drawn.the-variants.{Level, Upright, Refused}
+use Rattle.drawing.proofs.Examples.{carried, example-10}
+use Rattle.examples.specs.Shown.{sound, fit, shown, levels}
+use Rattle.examples.specs.Runs.{sloping, shaped, run-is, area-is, refusal-is, open-is}
+
+pub data Example : Type 0 where
+  -- the edge list and the text give these records, as numbers, so many of them, and this area
+  gives : List ℤ → List ℕ → List ℤ → ℕ → ℕ → Example
+  -- they are accepted
+  accepts : List ℤ → List ℕ → Example
+  -- they are refused with this answer
+  refuses : List ℤ → List ℕ → Answer → Example
+  -- the record (kind, place, from, to), with the origin 0 and this zoom, is drawn as this, and its place has these bits
+  draws : ℤ → ℤ → ℤ → ℤ → ℤ → Drawn → ℕ → Example
+
+abbrev placeBits : Drawn → ℕ
+placeBits (Level e) = toBits binary32 (e .place)
+placeBits (Upright e) = toBits binary32 (e .place)
+placeBits (Refused n) = 0
+
+abbrev pub Right : Example → Type 0
+Right (gives ns text rs k n) = ((out : List ℤ) → 4 * k ≤ length out → Runs ns text out (outcome (accepted k) (rs ++ drop (4 * k) out))) × Areas ns text (accepted n)
+Right (accepts ns text) = (n : ℕ) × Areas ns text (accepted n)
+Right (refuses ns text a) = ((out : List ℤ) → Runs ns text out (outcome a out)) × Areas ns text a
+Right (draws zoom kind place from to r bits) = Drawing (pos 0) (pos 0) zoom kind place from to r × (placeBits r ≡ bits)
+
+abbrev edge : ℕ → ℕ → ℕ → ℕ → List ℤ
+edge l y f t = pos l ∷ pos y ∷ pos f ∷ pos t ∷ []
+
+-- "A is (0,0,10,0), (0,5,0,10); B is (1,2,14,6), (1,8,6,14)."
+abbrev pub A : List ℤ
+A = edge 0 0 10 0 ++ edge 0 5 0 10
+
+abbrev pub B : List ℤ
+B = edge 1 2 14 6 ++ edge 1 8 6 14
+
+abbrev both : List ℤ
+both = A ++ B
+
+abbrev and-records : List ℤ
+and-records = edge 0 2 10 6 ++ edge 0 5 6 10 ++ edge 1 6 2 5 ++ edge 1 10 5 2
+
+abbrev or-records : List ℤ
+or-records =
+    edge 0 0 10 0 ++ edge 0 2 14 10 ++ edge 0 5 0 6 ++ edge 0 8 6 14
+    ++ edge 1 0 0 5 ++ edge 1 6 5 8 ++ edge 1 10 2 0 ++ edge 1 14 8 2
+
+-- "at y = 2 stand (0,2,6,10) and (0,2,14,10), not joined"
+abbrev xor-records : List ℤ
+xor-records =
+    edge 0 0 10 0 ++ edge 0 2 6 10 ++ edge 0 2 14 10 ++ edge 0 5 0 6 ++ edge 0 5 10 6 ++ edge 0 8 6 14
+    ++ edge 1 0 0 5 ++ edge 1 6 5 2 ++ edge 1 6 5 8 ++ edge 1 10 2 0 ++ edge 1 10 2 5 ++ edge 1 14 8 2
+
+abbrev pub table : List Example
+unfolding bytes
+table =
+    -- 1
+    gives both (bytes "a*b") and-records 4 12
+    -- 2
+    ∷ gives both (bytes "a+b") or-records 8 86
+    -- 3
+    ∷ gives both (bytes "a^b") xor-records 12 74
+    -- 4
+    ∷ gives [] (bytes "a") [] 0 0
+    -- 5
+    ∷ refuses both (bytes "!a") holds-on-nothing
+    ∷ refuses both (bytes "a+!a") holds-on-nothing
+    ∷ accepts both (bytes "!a*b")
+    -- 6
+    ∷ refuses both (bytes "()") not-in-grammar
+    -- 7
+    ∷ refuses (edge 0 0 10 0) (bytes "a") not-closed
+    -- 10
+    ∷ draws (pos 1) (pos 0) (pos 5) (pos 6) (pos 10) (Level carried) 0x4020_0000
+    ∷ []
+
+pub checked : All Right table
+unfolding bytes fit sound soundEdge flat sloping shaped edgesOf closedTest closedOver layersOf allBy xsOf ysOf lift number goesWest goesEast spans on west east shown levels numbersOf step upToN westsN eastsN coversN covers insideN levelN uprightN lineAt lineOver eachOf kindAt resultAt insertIf insert sorted eqZ sumOf answerTo reads read letterAt eval
+checked = (
+  (run-is both refl refl (bytes "a*b") _ refl refl refl and-records 4 refl refl, area-is both refl refl (bytes "a*b") _ refl refl refl 12 refl),
+  (
+    (run-is both refl refl (bytes "a+b") _ refl refl refl or-records 8 refl refl, area-is both refl refl (bytes "a+b") _ refl refl refl 86 refl),
+    (
+      (run-is both refl refl (bytes "a^b") _ refl refl refl xor-records 12 refl refl, area-is both refl refl (bytes "a^b") _ refl refl refl 74 refl),
+      (
+        (run-is [] refl refl (bytes "a") _ refl refl refl [] 0 refl refl, area-is [] refl refl (bytes "a") _ refl refl refl 0 refl),
+        (
+          refusal-is both refl refl (bytes "!a") holds-on-nothing refl (λ z. omega arith),
+          (
+            refusal-is both refl refl (bytes "a+!a") holds-on-nothing refl (λ z. omega arith),
+            (
+              (36, area-is both refl refl (bytes "!a*b") _ refl refl refl 36 refl),
+              (
+                refusal-is both refl refl (bytes "()") not-in-grammar refl (λ z. omega arith),
+                (open-is (edge 0 0 10 0) refl refl 0 (pos 0) (λ z. omega arith) (bytes "a"), (example-10, tt)),
+              ),
+            ),
+          ),
+        ),
+      ),
+    ),
+  ),
+)
