@@ -109,21 +109,21 @@ table =
 pub checked : All Right table
 unfolding bytes fit sound soundEdge flat sloping shaped edgesOf closedTest closedOver layersOf allBy xsOf ysOf lift number goesWest goesEast spans on west east shown levels numbersOf step upToN westsN eastsN coversN covers insideN levelN uprightN lineAt lineOver eachOf kindAt resultAt insertIf insert sorted eqZ sumOf answerTo reads read letterAt eval
 checked = (
-  (run-is both refl refl (bytes "a*b") _ refl refl refl and-records 4 refl refl, area-is both refl refl (bytes "a*b") _ refl refl refl 12 refl),
+  (run-is both refl refl (bytes "a*b") _ refl refl refl _ _ refl refl, area-is both refl refl (bytes "a*b") _ refl refl refl _ refl),
   (
-    (run-is both refl refl (bytes "a+b") _ refl refl refl or-records 8 refl refl, area-is both refl refl (bytes "a+b") _ refl refl refl 86 refl),
+    (run-is both refl refl (bytes "a+b") _ refl refl refl _ _ refl refl, area-is both refl refl (bytes "a+b") _ refl refl refl _ refl),
     (
-      (run-is both refl refl (bytes "a^b") _ refl refl refl xor-records 12 refl refl, area-is both refl refl (bytes "a^b") _ refl refl refl 74 refl),
+      (run-is both refl refl (bytes "a^b") _ refl refl refl _ _ refl refl, area-is both refl refl (bytes "a^b") _ refl refl refl _ refl),
       (
-        (run-is [] refl refl (bytes "a") _ refl refl refl [] 0 refl refl, area-is [] refl refl (bytes "a") _ refl refl refl 0 refl),
+        (run-is [] refl refl (bytes "a") _ refl refl refl _ _ refl refl, area-is [] refl refl (bytes "a") _ refl refl refl _ refl),
         (
-          refusal-is both refl refl (bytes "!a") holds-on-nothing refl (λ z. omega arith),
+          refusal-is both refl refl (bytes "!a") _ refl (λ z. omega arith),
           (
-            refusal-is both refl refl (bytes "a+!a") holds-on-nothing refl (λ z. omega arith),
+            refusal-is both refl refl (bytes "a+!a") _ refl (λ z. omega arith),
             (
               (36, area-is both refl refl (bytes "!a*b") _ refl refl refl 36 refl),
               (
-                refusal-is both refl refl (bytes "()") not-in-grammar refl (λ z. omega arith),
+                refusal-is both refl refl (bytes "()") _ refl (λ z. omega arith),
                 (open-is (edge 0 0 10 0) refl refl 0 (pos 0) (λ z. omega arith) (bytes "a"), (example-10, tt)),
               ),
             ),

@@ -10,4 +10,4 @@ pub mod Replace
 pub mod Parts
 pub mod Cover
 pub mod Covers
-pub mod Examples
+pub mod Spots

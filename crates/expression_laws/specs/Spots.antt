@@ -1,6 +1,7 @@
--- The checked examples 5, 6, 12 and 14 of document 01, with some more texts, as one table under one theorem; and what its two sentences on grouping say. Assumes nothing.
+-- Spot checks of the grammar and of refusals 6 to 9, computed: texts of document 01's examples and more, with their answers; and what its two sentences on grouping
+-- say. Assumes nothing.
 --
---   examples      texts and their answers
+--   spots         texts and their answers
 --   right         each answer is the one that the table of refusals gives
 --   grouped       `a-b*c` is (a and not b) and c; `a+b*c` is a or (b and c); `a-b-c` and `a^b+c` go from left to right; `!` binds tightest
 use mathlib.Core.Path.{_≡_, refl, subst}
@@ -16,53 +17,53 @@ use Rattle.expression_laws.specs.Reader.{got, a-sum, letterAt, read, rea
 use Rattle.expression_laws.specs.Meanings.{read-whole}
 use Rattle.expression_laws.specs.Judging.{answerTo, answerTo-right}
 
-pub record Example : Type 0 where
+pub record Spot : Type 0 where
   pub text : List ℕ
   pub answer : Answer
 
-abbrev example : List ℕ → Answer → Example
-example s r = record { text = s; answer = r }
+abbrev spot : List ℕ → Answer → Spot
+spot s r = record { text = s; answer = r }
 
-abbrev pub examples : List Example
+abbrev pub spots : List Spot
 unfolding bytes
-examples =
+spots =
     -- 5
-    example (bytes "!a") holds-on-nothing
-    ∷ example (bytes "a+!a") holds-on-nothing
-    ∷ example (bytes "!a*b") (accepted 0)
+    spot (bytes "!a") holds-on-nothing
+    ∷ spot (bytes "a+!a") holds-on-nothing
+    ∷ spot (bytes "!a*b") (accepted 0)
     -- 6
-    ∷ example (bytes "()") not-in-grammar
+    ∷ spot (bytes "()") not-in-grammar
     -- 12
-    ∷ example (bytes "((((((((((((((((a))))))))))))))))") (accepted 0)
-    ∷ example (bytes "(((((((((((((((((a)))))))))))))))))") too-deep
+    ∷ spot (bytes "((((((((((((((((a))))))))))))))))") (accepted 0)
+    ∷ spot (bytes "(((((((((((((((((a)))))))))))))))))") too-deep
     -- 14
-    ∷ example (bytes "a+a+a+a+a+a+a+a+a+a+a+a+a+a+a+a+a+a+a+a+a+a+a+a+a+a+a+a+a+a+a+a+a") expression-length
+    ∷ spot (bytes "a+a+a+a+a+a+a+a+a+a+a+a+a+a+a+a+a+a+a+a+a+a+a+a+a+a+a+a+a+a+a+a+a") expression-length
     -- a beginning is counted from the front, and the whole text is one
-    ∷ example [] expression-length
-    ∷ example (bytes ")(((((((((((((((((") not-in-grammar
-    ∷ example (bytes "(((((((((((((((((") too-deep
-    ∷ example (bytes "a b") not-in-grammar
-    ∷ example (bytes "a*") not-in-grammar
-    ∷ example (bytes "i") not-in-grammar
+    ∷ spot [] expression-length
+    ∷ spot (bytes ")(((((((((((((((((") not-in-grammar
+    ∷ spot (bytes "(((((((((((((((((") too-deep
+    ∷ spot (bytes "a b") not-in-grammar
+    ∷ spot (bytes "a*") not-in-grammar
+    ∷ spot (bytes "i") not-in-grammar
     ∷ []
 
-abbrev pub Right : List Example → Type 0
+abbrev pub Right : List Spot → Type 0
 Right [] = Unit {0}
 Right (x ∷ xs) = Judged (x .text) (x .answer) × Right xs
 
-computed : map (λ (x : Example). answerTo (x .text)) examples ≡ map (λ (x : Example). x .answer) examples
+computed : map (λ (x : Spot). answerTo (x .text)) spots ≡ map (λ (x : Spot). x .answer) spots
 unfolding bytes answerTo reads read letterAt eval
 computed = refl
 
-by-computing : (xs : List Example) → map (λ (x : Example). answerTo (x .text)) xs ≡ map (λ (x : Example). x .answer) xs → Right xs
+by-computing : (xs : List Spot) → map (λ (x : Spot). answerTo (x .text)) xs ≡ map (λ (x : Spot). x .answer) xs → Right xs
 by-computing [] e = tt
 by-computing (x ∷ xs) e =
     let p : answerTo (x .text) ≡ x .answer = cc in
-    let q : map (λ (y : Example). answerTo (y .text)) xs ≡ map (λ (y : Example). y .answer) xs = cc in
+    let q : map (λ (y : Spot). answerTo (y .text)) xs ≡ map (λ (y : Spot). y .answer) xs = cc in
     (subst (Judged (x .text)) p (answerTo-right (x .text)), by-computing xs q)
 
-pub right : Right examples
-right = by-computing examples computed
+pub right : Right spots
+right = by-computing spots computed
 
 -- ---- grouping
 
