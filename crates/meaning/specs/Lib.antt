@@ -8,4 +8,6 @@ pub mod Records
 pub mod Area
 pub mod Calls
 pub mod Drawn
+pub mod Printed
 pub mod Spots
+pub mod PrintedSpots

@@ -1,0 +1,1 @@
+// Laws and no program: what is shown of the printed text, in specs/.
