@@ -5,3 +5,4 @@ pub mod Signed
 pub mod Steps
 pub mod Tables
 pub mod Bits
+pub mod Fours

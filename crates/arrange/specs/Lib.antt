@@ -1,0 +1,3 @@
+-- What the contracts of `arrange` cite.
+pub mod Events
+pub mod Pass

@@ -1,0 +1,2 @@
+-- What the contracts of `balance` cite.
+pub mod Balanced

@@ -1,0 +1,44 @@
+-- A list of numbers, four to an edge: number j of record k, and the edges that the records are. Assumes nothing.
+--
+--   part ns k j     number j of record k
+--   edgeAt ns k     the edge that record k is
+--   edges-length    there is an edge for each four numbers
+--   edges-at        and edge k is that of record k
+use mathlib.Core.Path.{_≡_, refl, sym, ap, _∙_}
+use mathlib.Core.List.{List, [], _∷_}
+use Prim.Native.Nat.{ℕ, zero, suc, _+_, _*_, _/_, _<_}
+use native.Mathlib.Omega.{arith}
+use lib.IntN.{ℤ, pos}
+use lib.ListN.{length, getD}
+use Rattle.meaning.specs.Edges.{Edge, edge, edgesOf}
+
+abbrev pub part : List ℤ → ℕ → ℕ → ℤ
+part ns k j = getD ns (4 * k + j) (pos 0)
+
+unfoldable pub edgeAt : List ℤ → ℕ → Edge ℤ
+edgeAt ns k = edge (part ns k 0) (part ns k 1) (part ns k 2) (part ns k 3)
+
+pub edges-length : (ns : List ℤ) → length (edgesOf ns) ≡ length ns / 4
+unfolding edgesOf
+edges-length [] = refl
+edges-length (l ∷ []) = refl
+edges-length (l ∷ y ∷ []) = refl
+edges-length (l ∷ y ∷ f ∷ []) = refl
+edges-length (l ∷ y ∷ f ∷ t ∷ ns) = ap suc (edges-length ns) ∙ omega arith
+
+-- four numbers on, the same record stands one record earlier
+part-later : (l y f t : ℤ) (ns : List ℤ) (k j : ℕ) → part (l ∷ y ∷ f ∷ t ∷ ns) (suc k) j ≡ part ns k j
+part-later l y f t ns k j = ap (λ (n : ℕ). getD (l ∷ y ∷ f ∷ t ∷ ns) n (pos 0)) (later k j)
+  where
+    later : (k j : ℕ) → 4 * suc k + j ≡ suc (suc (suc (suc (4 * k + j))))
+    later k j = omega arith
+
+pub edges-at : (ns : List ℤ) (k : ℕ) (d : Edge ℤ) → k < length ns / 4 → getD (edgesOf ns) k d ≡ edgeAt ns k
+unfolding edgesOf edgeAt
+edges-at [] k d h = absurd (omega arith)
+edges-at (l ∷ []) k d h = absurd (omega arith)
+edges-at (l ∷ y ∷ []) k d h = absurd (omega arith)
+edges-at (l ∷ y ∷ f ∷ []) k d h = absurd (omega arith)
+edges-at (l ∷ y ∷ f ∷ t ∷ ns) zero d h = refl
+edges-at (l ∷ y ∷ f ∷ t ∷ ns) (suc k) d h =
+    edges-at ns k d (omega arith) ∙ sym (rw (part-later l y f t ns k 0, part-later l y f t ns k 1, part-later l y f t ns k 2, part-later l y f t ns k 3))

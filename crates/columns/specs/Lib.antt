@@ -1,0 +1,3 @@
+-- What the contracts of `columns` cite, and its laws.
+pub mod Kept
+pub mod Laws

@@ -1,0 +1,84 @@
+-- Tests and lifts of the numbers of a record, by their keys. Assumes nothing.
+--
+--   Keyed z r                 r is the key of z, a 32-bit number
+--   layer-key, coordinate-key the tests of a sound edge, by keys
+--   SoundParts, sound-parts   what a sound edge's numbers are
+--   layer-above, layer-is, layer-low   a layer is its key, less 2^31
+--   coordinate-above, lift-is a coordinate moved up by 2^30 is its key, less 2^30
+use mathlib.Core.Path.{_≡_, refl, sym, ap₂, _∙_}
+use mathlib.Core.Bool.{true, _&&_, false≢true}
+use Prim.Native.Nat.{ℕ, suc, _+_, _-_, _≤_, _<_}
+use native.Mathlib.Omega.{arith}
+use lib.Dec.{leb}
+use lib.IntN.{ℤ, pos, negsuc, natAbs}
+use lib.Signed.{mag, leZ}
+use borrow.Author.Tests.{leb-true, le-leb}
+use Rattle.meaning.specs.Numbers.{limit, inRange}
+use Rattle.meaning.specs.Edges.{edge, soundEdge}
+use Rattle.basics.specs.Tests.{and-left, and-right, and-on, leb-same}
+use Rattle.basics.specs.Signed.{keyOf, le-key}
+use Rattle.basics.specs.Steps.{lift}
+
+pub record Keyed (z : ℤ) (r : ℕ) : Type 0 where
+  pub is : r ≡ keyOf z
+  pub word : mag z < 2147483648
+
+pub layer-key : (z : ℤ) (top r : ℕ) → top < 2147483648 → Keyed z r → (leb 2147483648 r && leb r (top + 2147483648)) ≡ (leZ (pos 0) z && leZ z (pos top))
+layer-key z top r h K =
+    rw (K .is) (sym (ap₂ _&&_ (le-key (pos 0) z (omega arith) (K .word)) (le-key z (pos top) (K .word) h)))
+
+pub coordinate-key : (z : ℤ) (r : ℕ) → Keyed z r → (leb 1073741824 r && leb r 3221225472) ≡ inRange limit z
+coordinate-key z r K = rw (K .is) (go z (K .word))
+  where
+    go : (z : ℤ) → mag z < 2147483648 → (leb 1073741824 (keyOf z) && leb (keyOf z) 3221225472) ≡ inRange limit z
+    go (pos n) h = rw (le-leb 1073741824 (n + 2147483648) (omega arith)) (leb-same (n + 2147483648) 3221225472 n 1073741824 (λ e. omega arith) (λ e. omega arith))
+    go (negsuc n) h =
+        ap₂ _&&_ (leb-same 1073741824 (2147483648 - suc n) (suc n) 1073741824 (λ e. omega arith) (λ e. omega arith)) (le-leb (2147483648 - suc n) 3221225472 (omega arith)) ∙ and-on (leb (suc n) 1073741824)
+
+pub record SoundParts (top L : ℕ) (l y f t : ℤ) : Type 0 where
+  pub natural : leZ (pos 0) l ≡ true
+  pub low : leZ l (pos top) ≡ true
+  pub y-in : inRange L y ≡ true
+  pub from-in : inRange L f ≡ true
+  pub to-in : inRange L t ≡ true
+
+pub sound-parts : (top L : ℕ) (l y f t : ℤ) → soundEdge top L (edge l y f t) ≡ true → SoundParts top L l y f t
+unfolding soundEdge
+sound-parts top L l y f t e =
+    let a = and-left (leZ (pos 0) l && leZ l (pos top)) (inRange L y && (inRange L f && inRange L t)) e in
+    let b = and-right (leZ (pos 0) l && leZ l (pos top)) (inRange L y && (inRange L f && inRange L t)) e in
+    let c = and-right (inRange L y) (inRange L f && inRange L t) b in
+    record {
+      natural = and-left (leZ (pos 0) l) (leZ l (pos top)) a;
+      low = and-right (leZ (pos 0) l) (leZ l (pos top)) a;
+      y-in = and-left (inRange L y) (inRange L f && inRange L t) b;
+      from-in = and-left (inRange L f) (inRange L t) c;
+      to-in = and-right (inRange L f) (inRange L t) c;
+    }
+
+module _ (z : ℤ) (r : ℕ) (K : Keyed z r) (natural : leZ (pos 0) z ≡ true) where
+  natural-key : (z : ℤ) → leZ (pos 0) z ≡ true → keyOf z ≡ natAbs z + 2147483648
+  natural-key (pos n) h = refl
+  natural-key (negsuc n) h = absurd (false≢true h)
+
+  pub layer-above : 2147483648 ≤ r
+  layer-above = omega (arith, K .is, natural-key z natural)
+
+  pub layer-is : r - 2147483648 ≡ natAbs z
+  layer-is = omega (arith, K .is, natural-key z natural)
+
+pub layer-low : (z : ℤ) (top : ℕ) → leZ (pos 0) z ≡ true → leZ z (pos top) ≡ true → natAbs z ≤ top
+layer-low (pos n) top h l = leb-true n top l
+layer-low (negsuc n) top h l = absurd (false≢true h)
+
+module _ (z : ℤ) (r : ℕ) (K : Keyed z r) (inside : inRange limit z ≡ true) where
+  coordinate-is : (z : ℤ) → inRange limit z ≡ true → (1073741824 ≤ keyOf z) × (keyOf z - 1073741824 ≡ lift limit z)
+  unfolding lift
+  coordinate-is (pos n) h = (omega arith, omega arith)
+  coordinate-is (negsuc n) h = let l : suc n ≤ 1073741824 = leb-true (suc n) 1073741824 h in (omega arith, omega arith)
+
+  pub coordinate-above : 1073741824 ≤ r
+  coordinate-above = omega (arith, K .is, coordinate-is z inside .0)
+
+  pub lift-is : r - 1073741824 ≡ lift limit z
+  lift-is = omega (arith, K .is, coordinate-is z inside .1)

@@ -1,0 +1,2 @@
+-- What the contracts of `edge` cite, and its laws.
+pub mod Keys

@@ -1,0 +1,2 @@
+-- What the contracts of `ordering` cite.
+pub mod Both

@@ -1,0 +1,2 @@
+-- What the contracts of `ranking` cite.
+pub mod Ranked

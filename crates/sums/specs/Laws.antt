@@ -1,0 +1,102 @@
+-- Laws of sums, and of a store in a list. Assumes nothing.
+--
+--   below-or                          one number is below another, or not
+--   after-set                         what stands at a place after a store
+--   total-append, total-split, total-take   a sum over a list in parts
+--   total-map                         a sum over images is a sum
+--   sumTo-same, sumTo-twice           sums over numbers, term by term and two terms at a time
+--   total-is                          a sum over a list is one over its places
+--   prefix-total                      what a walk over a sorted list has added: the sum over all members that pass a test, where just the first m of the sorted ones do
+use mathlib.Core.Path.{_≡_, refl, sym, ap, _∙_}
+use mathlib.Core.Logic.{_≢_, _⊎_, inl, inr}
+use mathlib.Core.Bool.{Bool, true, false}
+use mathlib.Core.List.{List, [], _∷_, _++_, map}
+use Prim.Native.Nat.{ℕ, zero, suc, _+_, _<_, _≤_}
+use native.Mathlib.Numerals.{add-one}
+use native.Mathlib.Decide.{ℕ-discrete, decLt}
+use native.Mathlib.Omega.{arith}
+use lib.ListN.{length, getD, set, take, drop, take-append-drop, length-drop}
+use lib.Seq.{take-suc, take-length, length-take-le, getD-take, getD-drop, getD-set-same, getD-set-other}
+use Rattle.sums.specs.Sums.{total, sumTo, where-true, Perm}
+
+pub below-or : (p q : ℕ) → (p < q) ⊎ (q ≤ p)
+below-or p q = go (decLt p q)
+  where
+    go : Dec (p < q) → (p < q) ⊎ (q ≤ p)
+    go (yes h) = inl h
+    go (no n) = inr (omega arith)
+
+pub after-set : (a : List ℕ) (j v p : ℕ) → j < length a → ((p ≡ j) × (getD (set a j v) p 0 ≡ v)) ⊎ ((p ≢ j) × (getD (set a j v) p 0 ≡ getD a p 0))
+after-set a j v p h = go (ℕ-discrete p j)
+  where
+    go : Dec (p ≡ j) → ((p ≡ j) × (getD (set a j v) p 0 ≡ v)) ⊎ ((p ≢ j) × (getD (set a j v) p 0 ≡ getD a p 0))
+    go (yes e) = inl (e, rw e (getD-set-same a j v 0 h))
+    go (no n) = inr (n, getD-set-other a j p v 0 n)
+
+module _ {A : Type 0} (f : A → ℕ) where
+  pub total-append : (xs ys : List A) → total f (xs ++ ys) ≡ total f xs + total f ys
+  unfolding total
+  total-append [] ys = omega arith
+  total-append (x ∷ xs) ys = omega (arith, total-append xs ys)
+
+  pub total-split : (k : ℕ) (l : List A) → total f (take k l) + total f (drop k l) ≡ total f l
+  total-split k l = sym (total-append (take k l) (drop k l)) ∙ ap (total f) (take-append-drop k l)
+
+  pub total-take : (l : List A) (k : ℕ) (d : A) → k < length l → total f (take (k + 1) l) ≡ total f (take k l) + f (getD l k d)
+  unfolding total
+  total-take l k d h = rw (add-one, take-suc l k d h, total-append) (omega arith)
+
+pub total-map : {A B : Type 0} (g : B → ℕ) (h : A → B) (xs : List A) → total g (map h xs) ≡ total (λ x. g (h x)) xs
+unfolding total
+total-map g h [] = refl
+total-map g h (x ∷ xs) = ap (λ n. g (h x) + n) (total-map g h xs)
+
+pub sumTo-same : (n : ℕ) (g h : ℕ → ℕ) → ((i : ℕ) → i < n → g i ≡ h i) → sumTo n g ≡ sumTo n h
+unfolding sumTo
+sumTo-same zero g h e = refl
+sumTo-same (suc n) g h e = omega (arith, sumTo-same n g h (λ i l. e i (omega arith)), e n (omega arith))
+
+pub sumTo-twice : (n : ℕ) (h : ℕ → ℕ) → sumTo (n + n) h ≡ sumTo n (λ j. h (j + j) + h (j + j + 1))
+unfolding sumTo
+sumTo-twice zero h = refl
+sumTo-twice (suc n) h = ap (λ m. sumTo m h) (twice-suc n) ∙ omega (arith, sumTo-twice n h, ap h (one-more n))
+  where
+    twice-suc : (n : ℕ) → suc n + suc n ≡ suc (suc (n + n))
+    twice-suc n = omega arith
+
+    one-more : (n : ℕ) → n + n + 1 ≡ suc (n + n)
+    one-more n = omega arith
+
+sum-take : {A : Type 0} (f : A → ℕ) (xs : List A) (d : A) (n : ℕ) → n ≤ length xs → total f (take n xs) ≡ sumTo n (λ i. f (getD xs i d))
+unfolding total sumTo
+sum-take f xs d zero h = refl
+sum-take f xs d (suc n) h =
+    ap (λ k. total f (take k xs)) (sym (add-one n)) ∙ total-take f xs n d h ∙ ap (λ k. k + f (getD xs n d)) (sum-take f xs d n (omega arith))
+
+pub total-is : {A : Type 0} (f : A → ℕ) (xs : List A) (d : A) → total f xs ≡ sumTo (length xs) (λ i. f (getD xs i d))
+total-is f xs d = ap (total f) (sym (take-length xs)) ∙ sum-take f xs d (length xs) (omega arith)
+
+total-same : {A : Type 0} (f g : A → ℕ) (xs : List A) (d : A) → ((p : ℕ) → p < length xs → f (getD xs p d) ≡ g (getD xs p d)) → total f xs ≡ total g xs
+total-same f g xs d e =
+    total-is f xs d ∙ sumTo-same (length xs) (λ i. f (getD xs i d)) (λ i. g (getD xs i d)) e ∙ sym (total-is g xs d)
+
+total-zero : {A : Type 0} (xs : List A) → total (λ x. 0) xs ≡ 0
+unfolding total
+total-zero [] = refl
+total-zero (x ∷ xs) = omega (arith, total-zero xs)
+
+pub prefix-total : (words sorted : List ℕ) (m : ℕ) (t : ℕ → Bool) (g : ℕ → ℕ) → Perm sorted words → m ≤ length sorted
+    → ((p : ℕ) → p < m → t (getD sorted p 0) ≡ true) → ((p : ℕ) → m ≤ p → p < length sorted → t (getD sorted p 0) ≡ false)
+    → total g (take m sorted) ≡ total (λ w. where-true (t w) (g w)) words
+prefix-total words sorted m t g perm fits first rest =
+    let f : ℕ → ℕ = λ w. where-true (t w) (g w) in
+    let passed : total f (take m sorted) ≡ total g (take m sorted) =
+    total-same f g (take m sorted) 0
+    (λ p h. let l : p < m = omega (arith, length-take-le m sorted fits) in
+    ap (λ b. where-true b (g (getD (take m sorted) p 0))) (ap t (getD-take m sorted p 0 l) ∙ first p l)) in
+    let failed : total f (drop m sorted) ≡ 0 =
+    total-same f (λ x. 0) (drop m sorted) 0
+    (λ p h. let l : m + p < length sorted = omega (arith, length-drop m sorted) in
+    ap (λ b. where-true b (g (getD (drop m sorted) p 0))) (ap t (getD-drop m sorted p 0) ∙ rest (m + p) (omega arith) l))
+    ∙ total-zero (drop m sorted) in
+    omega (arith, passed, failed, total-split f m sorted, perm f)

@@ -1,0 +1,2 @@
+-- What the contracts of `words` cite, and its laws.
+pub mod Words
