@@ -17,8 +17,9 @@ use lib.ListN.{length, getD, set, take, replicate, length-set, getD-replicate}
 use lib.Seq.{length-take-le}
 use borrow.Author.Tests.{le-leb, lt-leb, eq-eqb, ne-eqb}
 use Rattle.meaning.specs.Numbers.{bit}
-use Rattle.sums.specs.Sums.{total, where-true}
-use Rattle.sums.specs.Laws.{after-set, below-or, total-take, prefix-total}
+use Rattle.basics.specs.Sums.{sumOf}
+use Rattle.sums.specs.Sums.{where-true}
+use Rattle.sums.specs.Laws.{after-set, below-or, sum-take, prefix-sum}
 use Rattle.words.specs.Words.{placeOf}
 use Rattle.axis.specs.Axes.{Places, Along}
 use Rattle.balance.specs.Balanced.{upTo, EvenAt, Balanced, always, first-at, Told, all-even, one-odd, Settled, one-place, even-there, odd-there}
@@ -29,14 +30,14 @@ settled-of n (all-even e) = even-there e
 settled-of n (one-odd c h d) = odd-there n c h d
 
 unfoldable pub passedOf : List ℕ → List ℕ → ℕ → ℕ → ℕ
-passedOf ws tags t i = total (λ w. bit (eqb (getD tags (placeOf w) 0) t)) (take i ws)
+passedOf ws tags t i = sumOf (λ w. bit (eqb (getD tags (placeOf w) 0) t)) (take i ws)
 
 bit-le : (b : Bool) → bit b ≤ 1
 bit-le true = omega arith
 bit-le false = omega arith
 
-bits-le : (p : ℕ → Bool) (ws : List ℕ) → total (λ w. bit (p w)) ws ≤ length ws
-unfolding total
+bits-le : (p : ℕ → Bool) (ws : List ℕ) → sumOf (λ w. bit (p w)) ws ≤ length ws
+unfolding sumOf
 bits-le p [] = omega arith
 bits-le p (w ∷ ws) = omega (arith, bits-le p ws, bit-le (p w))
 
@@ -46,7 +47,7 @@ passed-le ws tags t i h = omega (arith, bits-le (λ w. eqb (getD tags (placeOf w
 
 passed-more : (ws tags : List ℕ) (t i : ℕ) → i < length ws → passedOf ws tags t (i + 1) ≡ passedOf ws tags t i + bit (eqb (getD tags (placeOf (getD ws i 0)) 0) t)
 unfolding passedOf
-passed-more ws tags t i h = total-take (λ w. bit (eqb (getD tags (placeOf w) 0) t)) ws i 0 h
+passed-more ws tags t i h = sum-take (λ w. bit (eqb (getD tags (placeOf w) 0) t)) ws i 0 h
 
 pub record Walking (ws xs tags of : List ℕ) (last i : ℕ) : Type 0 where
   pub within : i ≤ length ws
@@ -61,12 +62,12 @@ module _ (ws xs tags : List ℕ) (P : Places (length xs) ws) (along : Along ws x
       → passedOf ws tags t i ≡ upTo xs tags t k
   unfolding passedOf upTo
   cut t k i h low high =
-      prefix-total ws ws i (λ w. leb (getD xs (placeOf w) 0) k) (λ w. bit (eqb (getD tags (placeOf w) 0) t)) (λ f. refl) h
+      prefix-sum ws ws i (λ w. leb (getD xs (placeOf w) 0) k) (λ w. bit (eqb (getD tags (placeOf w) 0) t)) (λ f. refl) h
       (λ p l. le-leb (getD xs (placeOf (getD ws p 0)) 0) k (low p l)) (λ q l m. lt-leb (getD xs (placeOf (getD ws q 0)) 0) k (high q l m))
       ∙ P .once (λ j. where-true (leb (getD xs j 0) k) (bit (eqb (getD tags j 0) t)))
 
   pub start : Walking ws xs tags (replicate 16 0) 0 0
-  unfolding passedOf total
+  unfolding passedOf sumOf
   start = record {
     within = omega arith;
     long = refl;

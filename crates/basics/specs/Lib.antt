@@ -1,6 +1,7 @@
 -- Small laws that stand once: tests on numbers as truth values, lists, signed numbers, tables of answers, and binary digits.
 pub mod Tests
 pub mod Lists
+pub mod Sums
 pub mod Signed
 pub mod Steps
 pub mod Tables

@@ -20,8 +20,9 @@ use Rattle.meaning.specs.Edges.{Edge, edge, on, number, Closed, soundEdge}
 use Rattle.basics.specs.Tests.{eqb-same}
 use Rattle.basics.specs.Steps.{lift, step-le, step-lift}
 use Rattle.laws.specs.Columns.{toUpTo, fromUpTo, closed-up-to, up-to-closed}
-use Rattle.sums.specs.Sums.{total, sumTo, where-true}
-use Rattle.sums.specs.Laws.{total-is, sumTo-same, sumTo-twice}
+use Rattle.basics.specs.Sums.{sumOf}
+use Rattle.sums.specs.Sums.{sumTo, where-true}
+use Rattle.sums.specs.Laws.{sum-is, sumTo-same, sumTo-twice}
 use Rattle.sums.specs.Pairs.{Pairs}
 use Rattle.edge.specs.Keys.{sound-parts, layer-low}
 use Rattle.balance.specs.Balanced.{upTo, EvenAt, Balanced, always, first-at}
@@ -55,13 +56,13 @@ pub data Weighed (es : List (Edge ℤ)) : Balance → Type 0 where
 
 -- ---- numbers of edges, edge by edge
 
-number-total : (p : Edge ℤ → Bool) (es : List (Edge ℤ)) → number p es ≡ total (λ e. bit (p e)) es
-unfolding number total
+number-total : (p : Edge ℤ → Bool) (es : List (Edge ℤ)) → number p es ≡ sumOf (λ e. bit (p e)) es
+unfolding number sumOf
 number-total p [] = refl
 number-total p (e ∷ es) = ap (λ n. bit (p e) + n) (number-total p es)
 
 number-is : (p : Edge ℤ → Bool) (es : List (Edge ℤ)) → number p es ≡ sumTo (length es) (λ j. bit (p (getD es j none)))
-number-is p es = number-total p es ∙ total-is (λ e. bit (p e)) es none
+number-is p es = number-total p es ∙ sum-is (λ e. bit (p e)) es none
 
 number-same : (p q : Edge ℤ → Bool) (es : List (Edge ℤ)) → ((j : ℕ) → j < length es → p (getD es j none) ≡ q (getD es j none)) → number p es ≡ number q es
 number-same p q es h =

@@ -23,7 +23,7 @@ use Rattle.meaning.specs.Records.{Record, result, numbersOf}
 use Rattle.meaning.specs.Calls.{cellsOf, recordsOf, areaOf, outcome, callRows, Runs, Areas}
 use Rattle.basics.specs.Tests.{and-left, and-right}
 use Rattle.basics.specs.Lists.{All}
-use Rattle.grid.specs.Sums.{sumOf}
+use Rattle.basics.specs.Sums.{sumOf}
 use Rattle.grid.specs.AreaLaws.{plus, minus}
 use Rattle.expression_laws.specs.Reader.{got, a-sum, reads}
 use Rattle.expression_laws.specs.Meanings.{read-whole}

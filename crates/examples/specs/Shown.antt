@@ -24,7 +24,7 @@ use Rattle.basics.specs.Lists.{All}
 use Rattle.grid.specs.Plane.{insideN, levelN, kindN, kindAt, resultN, resultAt, xsOf, ysOf, sorted, ClosedN}
 use Rattle.grid.specs.Compression.{result-sorted, levels-sorted}
 use Rattle.grid.specs.ClosedTest.{allBy, closedTest, closed-by, within-all}
-use Rattle.grid.specs.Sums.{sumOf}
+use Rattle.basics.specs.Sums.{sumOf}
 use Rattle.grid.specs.AreaLaws.{cellsN, plus, minus, area}
 use Rattle.laws.specs.View.{view, lowered, result-view, cells-view, within-bounded}
 use Rattle.laws.specs.Covered.{Sound, liftEdge, inside-view, view-closed, inside-within}

@@ -24,7 +24,7 @@ use Rattle.basics.specs.Lists.{All}
 use Rattle.basics.specs.Steps.{lift}
 use Rattle.grid.specs.Plane.{goesWest, goesEast, upToN, westsN, eastsN, coversN, insideN, levelN, uprightN, lineAt, lineOver, eachOf, kindAt, resultAt, xsOf, ysOf, insertIf, insert, sorted}
 use Rattle.grid.specs.ClosedTest.{allBy, closedTest, closedOver, layersOf}
-use Rattle.grid.specs.Sums.{sumOf}
+use Rattle.basics.specs.Sums.{sumOf}
 use Rattle.expression_laws.specs.Reader.{letterAt, read, reads}
 use Rattle.expression_laws.specs.Judging.{answerTo}
 use Rattle.drawing.specs.Drawing.{Drawing}

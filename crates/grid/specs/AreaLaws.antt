@@ -14,7 +14,8 @@ use Rattle.meaning.specs.Area.{total}
 use Rattle.basics.specs.Tests.{and-left, and-right}
 use Rattle.grid.specs.OneLine.{Good, same-true, line-good}
 use Rattle.grid.specs.Plane.{prior, levelN, recordAt, kindN}
-use Rattle.grid.specs.Sums.{sumOf, total-add, total-swap, sum-map, sum-each}
+use Rattle.basics.specs.Sums.{sumOf, sum-map}
+use Rattle.grid.specs.Sums.{total-add, total-swap, sum-each}
 
 -- the number of inside cells of the range
 unfoldable pub cellsN : ℕ → (ℕ → ℕ → Bool) → ℕ

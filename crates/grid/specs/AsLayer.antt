@@ -16,7 +16,8 @@ use Rattle.meaning.specs.Edges.{Edge, edge, number}
 use Rattle.meaning.specs.Area.{total}
 use Rattle.basics.specs.Tests.{spans-parts, spans-empty, spans, spans-in, spans-below, spans-above}
 use Rattle.grid.specs.Plane.{goesWest, goesEast, upToN, westsN, eastsN, levelN, recordAt, kindN}
-use Rattle.grid.specs.Sums.{sumOf, total-same, total-zero, total-add, total-split, total-one, sum-map}
+use Rattle.basics.specs.Sums.{sumOf, sum-map}
+use Rattle.grid.specs.Sums.{total-same, total-zero, total-add, total-split, total-one}
 use Rattle.grid.specs.AreaLaws.{cellsN, Additive, sum-kind, east, west, stepN, climb}
 
 -- ---- counts of two sets of cells

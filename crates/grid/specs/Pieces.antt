@@ -14,7 +14,8 @@ use Rattle.meaning.specs.Records.{run, Record, rec}
 use Rattle.meaning.specs.Area.{total}
 use Rattle.basics.specs.Tests.{spans, spans-in, spans-parts, spans-empty}
 use Rattle.grid.specs.Plane.{levelN, uprightN, recordAt, kindN, resultN}
-use Rattle.grid.specs.Sums.{sumOf, total-one, sum-append}
+use Rattle.basics.specs.Sums.{sumOf, sum-append}
+use Rattle.grid.specs.Sums.{total-one}
 use Rattle.grid.specs.AreaLaws.{Additive, sum-kind}
 use Rattle.grid.specs.AsLayer.{piece-off}
 

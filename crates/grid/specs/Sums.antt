@@ -6,10 +6,7 @@ use native.Mathlib.Omega.{arith}
 use native.Mathlib.Nat.{suc-add, zero-add, add-zero, add-suc}
 use Rattle.meaning.specs.Records.{each}
 use Rattle.meaning.specs.Area.{total}
-
-unfoldable pub sumOf : {A : Type 0} → (A → ℕ) → List A → ℕ
-sumOf f [] = 0
-sumOf f (x ∷ xs) = f x + sumOf f xs
+use Rattle.basics.specs.Sums.{sumOf, sum-append}
 
 pub total-same : (f g : ℕ → ℕ) (a n : ℕ) → ((k : ℕ) → a ≤ k → k < a + n → f k ≡ g k) → total f a n ≡ total g a n
 unfolding total
@@ -47,16 +44,6 @@ total-one f a n i p q h =
     let z₁ : total f a (i - a) ≡ 0 = total-zero f a (i - a) (λ k u v. h k u (omega arith) (omega arith)) in
     let z₂ : total f (suc i) (a + n - suc i) ≡ 0 = total-zero f (suc i) (a + n - suc i) (λ k u v. h k (omega arith) (omega arith) (omega arith)) in
     omega arith
-
-pub sum-append : {A : Type 0} (f : A → ℕ) (xs ys : List A) → sumOf f (xs ++ ys) ≡ sumOf f xs + sumOf f ys
-unfolding sumOf
-sum-append f [] ys = sym (zero-add (sumOf f ys))
-sum-append f (x ∷ xs) ys = omega (arith, sum-append f xs ys)
-
-pub sum-map : {A B : Type 0} (f : B → ℕ) (g : A → B) (xs : List A) → sumOf f (map g xs) ≡ sumOf (λ x. f (g x)) xs
-unfolding sumOf
-sum-map f g [] = refl
-sum-map f g (x ∷ xs) = ap (_+_ (f (g x))) (sum-map f g xs)
 
 pub sum-each : {A : Type 0} (f : A → ℕ) (h : ℕ → List A) (a n : ℕ) → sumOf f (each h a n) ≡ total (λ p. sumOf f (h p)) a n
 unfolding sumOf each total

@@ -7,7 +7,7 @@ use native.Mathlib.Nat.{mul-le-mul, mod-add-mod}
 use Rattle.meaning.specs.Numbers.{bit}
 use Rattle.meaning.specs.Area.{total}
 use Rattle.grid.specs.Plane.{levelN, kindN}
-use Rattle.grid.specs.Sums.{sumOf}
+use Rattle.basics.specs.Sums.{sumOf}
 use Rattle.grid.specs.AreaLaws.{plus, minus, cellsN, area}
 
 -- acc is P less M, modulo 2^64

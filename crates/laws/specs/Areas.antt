@@ -17,7 +17,8 @@ use Rattle.meaning.specs.Area.{total, cells, signedTerm, signedSum}
 use Rattle.basics.specs.Lists.{All}
 use Rattle.basics.specs.Signed.{minus-sub, sub-pos, sub-neg}
 use Rattle.grid.specs.Plane.{recordAt, levelN, kindN}
-use Rattle.grid.specs.Sums.{sumOf, total-same, total-swap}
+use Rattle.basics.specs.Sums.{sumOf}
+use Rattle.grid.specs.Sums.{total-same, total-swap}
 use Rattle.grid.specs.AreaLaws.{Additive, sum-kind, east, west, stepN, climb, plus, minus, cellsN, area}
 use Rattle.grid.specs.Wrap.{cells-le}
 use Rattle.laws.specs.View.{view, lowered, levels-view, within-bounded, cells-view}

@@ -25,7 +25,7 @@ use Rattle.basics.specs.Signed.{eqZ-no, lt-le-trans, le-trans-leZ, lt-not-le, l
 use Rattle.basics.specs.Steps.{lift, step-lt, step-le, step-eq, step-lift, lift-le, step-range, beyond}
 use Rattle.grid.specs.Plane.{levelN, uprightN, recordAt, kindN, resultN}
 use Rattle.grid.specs.OneLine.{Good, UpTo, line-good, line-upto}
-use Rattle.grid.specs.Sums.{sumOf}
+use Rattle.basics.specs.Sums.{sumOf}
 use Rattle.grid.specs.Pieces.{passesN, passingN, level-passing, upright-passing}
 use Rattle.laws.specs.View.{view, lowered, level-view, upright-view, result-view, first-step, last-step, last-is}
 

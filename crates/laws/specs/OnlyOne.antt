@@ -27,7 +27,7 @@ use Rattle.basics.specs.Signed.{eqZ-refl}
 use Rattle.basics.specs.Steps.{lift, step-lt, step-eq, step-range, step-lift, lift-le}
 use Rattle.grid.specs.OneLine.{Good, dirAt, unique, fwd≢off, bwd≢off}
 use Rattle.grid.specs.Plane.{resultN}
-use Rattle.grid.specs.Sums.{sumOf}
+use Rattle.basics.specs.Sums.{sumOf}
 use Rattle.grid.specs.Pieces.{passesN, passingN}
 use Rattle.laws.specs.View.{view, lowered, result-view}
 use Rattle.laws.specs.Listed.{Inner, result-inner, passing-view, level-listed, upright-listed}

@@ -2,22 +2,24 @@
 --
 --   below-or                          one number is below another, or not
 --   after-set                         what stands at a place after a store
---   total-append, total-split, total-take   a sum over a list in parts
---   total-map                         a sum over images is a sum
+--   sum-split, sum-take               a sum over a list in parts
 --   sumTo-same, sumTo-twice           sums over numbers, term by term and two terms at a time
---   total-is                          a sum over a list is one over its places
---   prefix-total                      what a walk over a sorted list has added: the sum over all members that pass a test, where just the first m of the sorted ones do
+--   sum-is                            a sum over a list is one over its places
+--   sum-same, sum-le                  of terms that are equal, or at most one
+--   perm-refl                         a list has its own members
+--   prefix-sum                        what a walk over a sorted list has added: the sum over all members that pass a test, where just the first m of the sorted ones do
 use mathlib.Core.Path.{_≡_, refl, sym, ap, _∙_}
 use mathlib.Core.Logic.{_≢_, _⊎_, inl, inr}
 use mathlib.Core.Bool.{Bool, true, false}
-use mathlib.Core.List.{List, [], _∷_, _++_, map}
+use mathlib.Core.List.{List, [], _∷_}
 use Prim.Native.Nat.{ℕ, zero, suc, _+_, _<_, _≤_}
 use native.Mathlib.Numerals.{add-one}
 use native.Mathlib.Decide.{ℕ-discrete, decLt}
 use native.Mathlib.Omega.{arith}
 use lib.ListN.{length, getD, set, take, drop, take-append-drop, length-drop}
 use lib.Seq.{take-suc, take-length, length-take-le, getD-take, getD-drop, getD-set-same, getD-set-other}
-use Rattle.sums.specs.Sums.{total, sumTo, where-true, Perm}
+use Rattle.basics.specs.Sums.{sumOf, sum-append}
+use Rattle.sums.specs.Sums.{sumTo, where-true, Perm}
 
 pub below-or : (p q : ℕ) → (p < q) ⊎ (q ≤ p)
 below-or p q = go (decLt p q)
@@ -34,22 +36,12 @@ after-set a j v p h = go (ℕ-discrete p j)
     go (no n) = inr (n, getD-set-other a j p v 0 n)
 
 module _ {A : Type 0} (f : A → ℕ) where
-  pub total-append : (xs ys : List A) → total f (xs ++ ys) ≡ total f xs + total f ys
-  unfolding total
-  total-append [] ys = omega arith
-  total-append (x ∷ xs) ys = omega (arith, total-append xs ys)
+  pub sum-split : (k : ℕ) (l : List A) → sumOf f (take k l) + sumOf f (drop k l) ≡ sumOf f l
+  sum-split k l = sym (sum-append f (take k l) (drop k l)) ∙ ap (sumOf f) (take-append-drop k l)
 
-  pub total-split : (k : ℕ) (l : List A) → total f (take k l) + total f (drop k l) ≡ total f l
-  total-split k l = sym (total-append (take k l) (drop k l)) ∙ ap (total f) (take-append-drop k l)
-
-  pub total-take : (l : List A) (k : ℕ) (d : A) → k < length l → total f (take (k + 1) l) ≡ total f (take k l) + f (getD l k d)
-  unfolding total
-  total-take l k d h = rw (add-one, take-suc l k d h, total-append) (omega arith)
-
-pub total-map : {A B : Type 0} (g : B → ℕ) (h : A → B) (xs : List A) → total g (map h xs) ≡ total (λ x. g (h x)) xs
-unfolding total
-total-map g h [] = refl
-total-map g h (x ∷ xs) = ap (λ n. g (h x) + n) (total-map g h xs)
+  pub sum-take : (l : List A) (k : ℕ) (d : A) → k < length l → sumOf f (take (k + 1) l) ≡ sumOf f (take k l) + f (getD l k d)
+  unfolding sumOf
+  sum-take l k d h = rw (add-one, take-suc l k d h, sum-append) (omega arith)
 
 pub sumTo-same : (n : ℕ) (g h : ℕ → ℕ) → ((i : ℕ) → i < n → g i ≡ h i) → sumTo n g ≡ sumTo n h
 unfolding sumTo
@@ -67,36 +59,44 @@ sumTo-twice (suc n) h = ap (λ m. sumTo m h) (twice-suc n) ∙ omega (arith, sum
     one-more : (n : ℕ) → n + n + 1 ≡ suc (n + n)
     one-more n = omega arith
 
-sum-take : {A : Type 0} (f : A → ℕ) (xs : List A) (d : A) (n : ℕ) → n ≤ length xs → total f (take n xs) ≡ sumTo n (λ i. f (getD xs i d))
-unfolding total sumTo
-sum-take f xs d zero h = refl
-sum-take f xs d (suc n) h =
-    ap (λ k. total f (take k xs)) (sym (add-one n)) ∙ total-take f xs n d h ∙ ap (λ k. k + f (getD xs n d)) (sum-take f xs d n (omega arith))
+sum-places : {A : Type 0} (f : A → ℕ) (xs : List A) (d : A) (n : ℕ) → n ≤ length xs → sumOf f (take n xs) ≡ sumTo n (λ i. f (getD xs i d))
+unfolding sumOf sumTo
+sum-places f xs d zero h = refl
+sum-places f xs d (suc n) h =
+    ap (λ k. sumOf f (take k xs)) (sym (add-one n)) ∙ sum-take f xs n d h ∙ ap (λ k. k + f (getD xs n d)) (sum-places f xs d n (omega arith))
 
-pub total-is : {A : Type 0} (f : A → ℕ) (xs : List A) (d : A) → total f xs ≡ sumTo (length xs) (λ i. f (getD xs i d))
-total-is f xs d = ap (total f) (sym (take-length xs)) ∙ sum-take f xs d (length xs) (omega arith)
+pub sum-is : {A : Type 0} (f : A → ℕ) (xs : List A) (d : A) → sumOf f xs ≡ sumTo (length xs) (λ i. f (getD xs i d))
+sum-is f xs d = ap (sumOf f) (sym (take-length xs)) ∙ sum-places f xs d (length xs) (omega arith)
 
-total-same : {A : Type 0} (f g : A → ℕ) (xs : List A) (d : A) → ((p : ℕ) → p < length xs → f (getD xs p d) ≡ g (getD xs p d)) → total f xs ≡ total g xs
-total-same f g xs d e =
-    total-is f xs d ∙ sumTo-same (length xs) (λ i. f (getD xs i d)) (λ i. g (getD xs i d)) e ∙ sym (total-is g xs d)
+pub sum-same : {A : Type 0} (f g : A → ℕ) (xs : List A) (d : A) → ((p : ℕ) → p < length xs → f (getD xs p d) ≡ g (getD xs p d)) → sumOf f xs ≡ sumOf g xs
+sum-same f g xs d e =
+    sum-is f xs d ∙ sumTo-same (length xs) (λ i. f (getD xs i d)) (λ i. g (getD xs i d)) e ∙ sym (sum-is g xs d)
 
-total-zero : {A : Type 0} (xs : List A) → total (λ x. 0) xs ≡ 0
-unfolding total
-total-zero [] = refl
-total-zero (x ∷ xs) = omega (arith, total-zero xs)
+sum-zero : {A : Type 0} (xs : List A) → sumOf (λ x. 0) xs ≡ 0
+unfolding sumOf
+sum-zero [] = refl
+sum-zero (x ∷ xs) = omega (arith, sum-zero xs)
 
-pub prefix-total : (words sorted : List ℕ) (m : ℕ) (t : ℕ → Bool) (g : ℕ → ℕ) → Perm sorted words → m ≤ length sorted
+pub prefix-sum : (words sorted : List ℕ) (m : ℕ) (t : ℕ → Bool) (g : ℕ → ℕ) → Perm sorted words → m ≤ length sorted
     → ((p : ℕ) → p < m → t (getD sorted p 0) ≡ true) → ((p : ℕ) → m ≤ p → p < length sorted → t (getD sorted p 0) ≡ false)
-    → total g (take m sorted) ≡ total (λ w. where-true (t w) (g w)) words
-prefix-total words sorted m t g perm fits first rest =
+    → sumOf g (take m sorted) ≡ sumOf (λ w. where-true (t w) (g w)) words
+prefix-sum words sorted m t g perm fits first rest =
     let f : ℕ → ℕ = λ w. where-true (t w) (g w) in
-    let passed : total f (take m sorted) ≡ total g (take m sorted) =
-    total-same f g (take m sorted) 0
+    let passed : sumOf f (take m sorted) ≡ sumOf g (take m sorted) =
+    sum-same f g (take m sorted) 0
     (λ p h. let l : p < m = omega (arith, length-take-le m sorted fits) in
     ap (λ b. where-true b (g (getD (take m sorted) p 0))) (ap t (getD-take m sorted p 0 l) ∙ first p l)) in
-    let failed : total f (drop m sorted) ≡ 0 =
-    total-same f (λ x. 0) (drop m sorted) 0
+    let failed : sumOf f (drop m sorted) ≡ 0 =
+    sum-same f (λ x. 0) (drop m sorted) 0
     (λ p h. let l : m + p < length sorted = omega (arith, length-drop m sorted) in
     ap (λ b. where-true b (g (getD (drop m sorted) p 0))) (ap t (getD-drop m sorted p 0) ∙ rest (m + p) (omega arith) l))
-    ∙ total-zero (drop m sorted) in
-    omega (arith, passed, failed, total-split f m sorted, perm f)
+    ∙ sum-zero (drop m sorted) in
+    omega (arith, passed, failed, sum-split f m sorted, perm f)
+
+pub sum-le : {A : Type 0} (f : A → ℕ) (xs : List A) → ((x : A) → f x ≤ 1) → sumOf f xs ≤ length xs
+unfolding sumOf
+sum-le f [] h = omega arith
+sum-le f (x ∷ xs) h = omega (arith, h x, sum-le f xs h)
+
+pub perm-refl : {A : Type 0} (xs : List A) → Perm xs xs
+perm-refl xs f = refl

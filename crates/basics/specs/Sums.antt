@@ -1,0 +1,23 @@
+-- The sum of a number over the members of a list. Assumes nothing.
+--
+--   sumOf f xs       the sum of f over xs
+--   sum-append, sum-map   of lists put together, and of images
+use mathlib.Core.Path.{_≡_, refl, sym, ap}
+use mathlib.Core.List.{List, [], _∷_, _++_, map}
+use Prim.Native.Nat.{ℕ, _+_}
+use native.Mathlib.Omega.{arith}
+use native.Mathlib.Nat.{zero-add}
+
+unfoldable pub sumOf : {A : Type 0} → (A → ℕ) → List A → ℕ
+sumOf f [] = 0
+sumOf f (x ∷ xs) = f x + sumOf f xs
+
+pub sum-append : {A : Type 0} (f : A → ℕ) (xs ys : List A) → sumOf f (xs ++ ys) ≡ sumOf f xs + sumOf f ys
+unfolding sumOf
+sum-append f [] ys = sym (zero-add (sumOf f ys))
+sum-append f (x ∷ xs) ys = omega (arith, sum-append f xs ys)
+
+pub sum-map : {A B : Type 0} (f : B → ℕ) (g : A → B) (xs : List A) → sumOf f (map g xs) ≡ sumOf (λ x. f (g x)) xs
+unfolding sumOf
+sum-map f g [] = refl
+sum-map f g (x ∷ xs) = ap (_+_ (f (g x))) (sum-map f g xs)
