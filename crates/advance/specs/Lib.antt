@@ -1,0 +1,2 @@
+-- One place's corners onto the rows.
+pub mod Advanced

@@ -1,0 +1,68 @@
+-- Which layers cover each row, as one number, its cover, and what the expression makes of it.
+--
+--   coverNo n f              the number whose binary digits are f 0, f 1, .. f (n - 1)
+--   holdsOf truth            the expression that a table of 256 covers has
+--   coversRow c r l          layer l covers row r, by the one coverage rule
+--   turnedTo m l d           the cover m with the digit of layer l made d
+--   Passed none f a b xs₀ xs one pass over the rows from a on, below b; Digits, Told: the two passes there are
+--   Covered c m              m has each row's cover
+--   Flags truth c m new      and new has what the expression makes of it
+--   CoverOk, InsideOk        the same for the counts as they were; only the rows from a on, below b, of layers seen have changed since
+use mathlib.Core.Path.{_≡_}
+use mathlib.Core.Bool.{Bool, false}
+use mathlib.Core.List.{List}
+use Prim.Native.Nat.{ℕ, zero, suc, _+_, _*_, _-_, _/_, _%_, _^_, _<_, _≤_}
+use lib.IntN.{pos, _-ℤ_}
+use lib.ListN.{length, getD}
+use Rattle.meaning.specs.Numbers.{bit}
+use Rattle.meaning.specs.Edges.{covers}
+use Rattle.sums.specs.Sums.{where-true}
+use Rattle.rows.specs.Rows.{rowAt}
+
+unfoldable pub coverNo : ℕ → (ℕ → Bool) → ℕ
+coverNo zero f = 0
+coverNo (suc n) f = coverNo n f + where-true (f n) (2 ^ n)
+
+unfoldable pub holdsOf : List Bool → (ℕ → Bool) → Bool
+holdsOf truth f = getD truth (coverNo 8 f) false
+
+abbrev pub coversRow : List ℕ → ℕ → ℕ → Bool
+coversRow c r l = covers (pos (rowAt c l r) -ℤ pos 8192)
+
+abbrev pub turnedTo : ℕ → ℕ → ℕ → ℕ
+turnedTo m l d = m - (m / 2 ^ l % 2) * 2 ^ l + d * 2 ^ l
+
+-- each number from a on, below b, is f of its place; all others are as they were
+pub record Passed {A : Type 0} (none : A) (f : ℕ → A) (a b : ℕ) (xs₀ xs : List A) : Type 0 where
+  pub long : length xs ≡ length xs₀
+  pub made : (r : ℕ) → a ≤ r → r < b → getD xs r none ≡ f r
+  pub same : (r : ℕ) → (a ≤ r → r < b → ⊥) → getD xs r none ≡ getD xs₀ r none
+
+abbrev pub Digits : ℕ → ℕ → ℕ → List ℕ → List ℕ → List ℕ → Type 0
+Digits l a b c m₀ m = Passed 0 (λ r. turnedTo (getD m₀ r 0) l (bit (coversRow c r l))) a b m₀ m
+
+abbrev pub Told : List ℕ → List Bool → ℕ → ℕ → List Bool → List Bool → Type 0
+Told m truth a b new₀ new = Passed false (λ r. getD truth (getD m r 0) false) a b new₀ new
+
+pub record Covered (c m : List ℕ) : Type 0 where
+  pub long : length m ≡ 8192
+  pub each : (r : ℕ) → r < 8192 → getD m r 0 ≡ coverNo 8 (coversRow c r)
+
+pub record CoverOk (c m : List ℕ) (a b : ℕ) (seen : List ℕ) : Type 0 where
+  pub was : List ℕ
+  pub covered : Covered was m
+  pub counts : length c ≡ 65536
+  pub order : a ≤ b
+  pub top : b ≤ 8192
+  pub still : (l r : ℕ) → l < 8 → r < 8192 → (a ≤ r → r < b → ⊥) → rowAt c l r ≡ rowAt was l r
+  pub unseen : (l r : ℕ) → l < 8 → r < 8192 → getD seen l 0 ≡ 0 → rowAt c l r ≡ rowAt was l r
+
+pub record Flags (truth : List Bool) (c m : List ℕ) (new : List Bool) : Type 0 where
+  pub covered : Covered c m
+  pub long : length new ≡ 8192
+  pub told : (r : ℕ) → r < 8192 → getD new r false ≡ holdsOf truth (coversRow c r)
+
+pub record InsideOk (c m : List ℕ) (truth new : List Bool) (a b : ℕ) (seen : List ℕ) : Type 0 where
+  pub cover : CoverOk c m a b seen
+  pub flags : Flags truth (cover .was) m new
+  pub long-truth : length truth ≡ 256

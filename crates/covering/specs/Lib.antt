@@ -1,0 +1,3 @@
+-- From counts to which rows are inside.
+pub mod Cover
+pub mod CoverLaws

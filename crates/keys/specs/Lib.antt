@@ -1,0 +1,3 @@
+-- Corners as keys.
+pub mod Key
+pub mod KeyLaws

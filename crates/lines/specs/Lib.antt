@@ -1,0 +1,2 @@
+-- The records of one line.
+pub mod Line

@@ -1,0 +1,2 @@
+-- Tables of rising numbers.
+pub mod Ranks

@@ -1,0 +1,3 @@
+-- Records in a lent buffer.
+pub mod Put
+pub mod Emitting

@@ -1,0 +1,2 @@
+-- Rows of counts.
+pub mod Rows

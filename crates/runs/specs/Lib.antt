@@ -1,0 +1,3 @@
+-- The stretches of one line.
+pub mod Stretches
+pub mod StretchLaws

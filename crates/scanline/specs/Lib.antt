@@ -1,0 +1,3 @@
+-- The scanline.
+pub mod Handed
+pub mod HandedLaws

@@ -1,0 +1,71 @@
+// The scanline and the counts that it hands on.
+ghost use mathlib.Core.Path.{_≡_};
+ghost use Prim.Native.Nat.{_<_};
+ghost use lib.ListN.{getD};
+ghost use Rattle.scanline.specs.Handed.{crossedBy, freshCounts, freshLine, past, Bounded};
+
+// The eight counts: of each layer, the west edges and the east edges that were passed.
+pub struct Counts {
+    pub wests: [u16; Scanline::LAYERS],
+    pub easts: [u16; Scanline::LAYERS],
+}
+
+impl Counts {
+    pub fn fresh() -> Self
+        ensures { λ r. ⌜ r ≡ freshCounts ⌝ }
+    {
+        let none = [0u16; Scanline::LAYERS];
+        Self {
+            wests: none,
+            easts: none,
+        }
+    }
+
+    // The counts past one crossing more, of an edge of this layer and direction.
+    pub fn crossed(mut self, layer: usize, west: bool) -> Self
+        requires { ⌜ (layer < 8) × (getD (self .wests) layer 0 < 65535) × (getD (self .easts) layer 0 < 65535) ⌝ }
+        ensures { λ r. ⌜ r ≡ crossedBy self layer west ⌝ }
+    {
+        if west {
+            self.wests[layer] = self.wests[layer] + 1;
+        } else {
+            self.easts[layer] = self.easts[layer] + 1;
+        }
+        self
+    }
+}
+
+// A scanline on its way: how many crossings it passed, and the counts there.
+pub struct Scanline {
+    pub passed: u16,
+    pub counts: Counts,
+}
+
+impl Scanline {
+    // Layers a to h.
+    pub const LAYERS: usize = 8;
+
+    // The greatest coordinate, 2^30.
+    pub const LIMIT: u32 = 1073741824;
+
+    // No crossing, and every count at zero.
+    pub fn fresh() -> Self
+        ensures { λ r. ⌜ r ≡ freshLine ⌝ }
+    {
+        let counts = Counts::fresh();
+        Self { passed: 0, counts }
+    }
+
+    // The scanline past one crossing more: it hands on the counts with one of them changed by one.
+    pub fn crossing(self, layer: usize, west: bool) -> Self
+        requires { ⌜ (layer < 8) × Bounded self ⌝ }
+        ensures { λ r. ⌜ r ≡ past self layer west ⌝ }
+    {
+        let counts = self.counts;
+        let next = counts.crossed(layer, west);
+        Self {
+            passed: self.passed + 1,
+            counts: next,
+        }
+    }
+}

@@ -1,0 +1,34 @@
+-- `sweep::cells` meets its contract. Assumes nothing.
+use Rattle.sweep.proofs.SweepLaws.{fresh-rows, sum-area}
+use borrow.Author.Needs.{needs}
+use Rattle.sweep.proofs.cells.Statement.{statement}
+use Rattle.sweep.proofs.cells.Tie as tie
+
+slice-aggregate-weigh-places : tie.Need-slice-aggregate-weigh-places
+slice-aggregate-weigh-places c = search needs
+
+slice-aggregate-weigh-places-2 : tie.Need-slice-aggregate-weigh-places-2
+slice-aggregate-weigh-places-2 c = search needs
+
+slice-aggregate-weigh-places-3 : tie.Need-slice-aggregate-weigh-places-3
+slice-aggregate-weigh-places-3 c = search needs
+
+slice-aggregate-weigh-places-4 : tie.Need-slice-aggregate-weigh-places-4
+slice-aggregate-weigh-places-4 c = search needs
+
+weigh-places-requires : tie.Need-weigh-places-requires
+weigh-places-requires c κs = (c .before .before .before .before .before .before .before .before .pre, fresh-rows _ _)
+
+returns : tie.Need-returns
+returns c = sum-area _ (search needs) (c .before .before .before .before .weigh-places .ensures)
+
+pub cells-spec : {M : Type 1} → statement M
+cells-spec =
+    tie.close
+    (tie.spec
+    slice-aggregate-weigh-places
+    slice-aggregate-weigh-places-2
+    slice-aggregate-weigh-places-3
+    slice-aggregate-weigh-places-4
+    weigh-places-requires
+    returns)

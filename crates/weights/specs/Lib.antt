@@ -1,0 +1,3 @@
+-- What records add to the area.
+pub mod Weights
+pub mod WeightLaws

@@ -1,0 +1,3 @@
+-- The result into the lent buffer.
+pub mod Writing
+pub mod Once
