@@ -5,5 +5,6 @@ pub mod Sums
 pub mod Signed
 pub mod Steps
 pub mod Tables
+pub mod Stores
 pub mod Bits
 pub mod Fours

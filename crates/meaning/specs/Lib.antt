@@ -7,6 +7,9 @@ pub mod Cells
 pub mod Records
 pub mod Area
 pub mod Calls
+pub mod Rings
+pub mod MaskFile
+pub mod Faults
 pub mod Drawn
 pub mod Printed
 pub mod Spots

@@ -1,0 +1,2 @@
+-- The answer of a call, as the paper has it.
+pub mod Said

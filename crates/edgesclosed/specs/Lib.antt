@@ -1,0 +1,3 @@
+-- The edges of a good ring list keep the rules of edge lists.
+pub mod Rules
+pub mod Closed

@@ -1,0 +1,4 @@
+-- Laws of reading a mask file.
+pub mod Stored
+pub mod Walk
+pub mod Whole

@@ -1,0 +1,3 @@
+-- What the parts of the reader answer.
+pub mod Due
+pub mod Outcome

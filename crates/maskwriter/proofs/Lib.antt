@@ -1,0 +1,3 @@
+-- Laws of writing a mask file.
+pub mod Differences
+pub mod Walk

@@ -1,0 +1,2 @@
+-- What the parts of the writer answer.
+pub mod Stored

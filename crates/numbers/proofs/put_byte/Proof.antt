@@ -1,0 +1,21 @@
+-- `numbers::put_byte` meets its contract: a store past the end is none. Assumes nothing.
+use borrow.Author.Needs.{needs}
+use mathlib.Core.Path.{sym}
+use lib.Seq.{set-out}
+use Rattle.numbers.proofs.put_byte.Statement.{statement}
+use Rattle.numbers.proofs.put_byte.Tie as tie
+
+returns : tie.Need-returns
+returns c = sym (set-out _ _ _ (c .if1 .taken))
+
+slice-write-out : tie.Need-slice-write-out
+slice-write-out c = search needs
+
+same-length : tie.Need-same-length
+same-length c = search needs
+
+returns-2 : tie.Need-returns-2
+returns-2 c = search needs
+
+pub put-byte-spec : {M : Type 1} → statement M
+put-byte-spec = tie.close (tie.spec returns slice-write-out same-length returns-2)

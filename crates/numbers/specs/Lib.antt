@@ -1,0 +1,2 @@
+-- What the readers and the writer of numbers answer.
+pub mod Reading

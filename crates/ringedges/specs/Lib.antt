@@ -1,0 +1,2 @@
+-- What the parts of the edge maker write.
+pub mod Ended

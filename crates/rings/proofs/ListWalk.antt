@@ -1,0 +1,208 @@
+-- The way through a ring list, number by number, and the whole call on one. Assumes nothing.
+--
+--   ListAt ns b s i   the numbers before i are the beginning b, with no fault, and s is the state after them
+--   list-at-start     before the first number
+--   list-sane         the state's bounds
+--   Passed, passed    what a due number that was read says
+--   list-at-next      one number further
+--   list-refused      a refusal on the way
+--   list-over, list-short   the end of the list
+--   call-refused, call-room, call-done   the table of a call by its outcome
+use mathlib.Core.Path.{_≡_, refl, sym, ap, ap₂, subst, subst⁻¹, _∙_}
+use mathlib.Core.Bool.{true, false, true≢false, false≢true}
+use mathlib.Core.Logic.{inl, inr}
+use mathlib.Core.List.{List, [], _∷_, _++_}
+use Prim.Native.Nat.{ℕ, suc, _+_, _-_, _≤_, _<_}
+use native.Mathlib.Omega.{arith}
+use native.Mathlib.Numerals.{add-one}
+use lib.Dec.{lit≤}
+use lib.IntN.{ℤ, pos, negsuc}
+use lib.ListN.{length, getD, take, drop, take-append-drop, drop-of-length-le}
+use lib.Seq.{take-suc, take-all, drop-cons, length-take-le}
+use borrow.Author.Tests.{lt-ltb, le-ltb}
+use Rattle.basics.specs.Signed.{keyOf}
+use Rattle.basics.specs.Stores.{sets-all}
+use Rattle.meaning.specs.Numbers.{limit}
+use Rattle.meaning.specs.Answers.{Answer, answer, accepted, room-too-short}
+use Rattle.meaning.specs.Rings.{Ring, GoodRings, pairsIn, numbersOf}
+use Rattle.meaning.specs.Faults.{Begun, at-layer, at-count, at-x, at-y, after, Begins, nothing, more, ListSpells, MayEnd, Judged, ListFault, OfList}
+use Rattle.ringlaws.specs.Groups.{clash}
+use Rattle.ringlaws.specs.Beginnings.{Fine, Good, good-begins}
+use Rattle.ringlaws.specs.Forms.{list-begins}
+use Rattle.ringlaws.specs.Meet.{list-fault-none, one-list}
+use Rattle.ringlaws.specs.Calls.{list-fault, list-laid, laid-short, laid-done}
+use Rattle.numbers.specs.Reading.{answerOf}
+use Rattle.numbers.specs.declared.Reading.{Reading}
+use Rattle.numbers.specs.declared.Reading.the-variants.{Value, Refused}
+use Rattle.rings.specs.State.{start, isCoordinate, mayEnd, faultOf, nextOf, judgedAs, dueInList, Sane}
+use Rattle.rings.specs.StateOf.{stateOf, keyed}
+use Rattle.rings.specs.Outcome.{Made, Outcome}
+use Rattle.rings.specs.declared.State.{State}
+use Rattle.rings.proofs.Judging.{judged-value, judged-refused}
+use Rattle.rings.proofs.Standing.{Natural, verdict, negative, next-state, sane}
+
+pub record ListAt (ns : List ℤ) (b : Begun) (s : State) (i : ℕ) : Type 0 where
+  pub state : s ≡ stateOf b
+  pub list : Begins limit ListSpells [] b (take i ns)
+  pub within : i ≤ length ns
+
+pub list-at-start : (ns : List ℤ) → ListAt ns (at-layer []) (start 4096) 0
+unfolding pairsIn
+list-at-start ns = record { state = refl; list = nothing; within = omega arith }
+
+-- ---- the due number z, which stands as keyOf z
+
+-- a layer or a k is negative where it stands below 2^31
+pub data Sign (b : Begun) (z : ℤ) : Type 0 where
+  coordinate : isCoordinate (stateOf b .due) ≡ true → keyed b z ≡ keyOf z → Natural b z → Sign b z
+  below : isCoordinate (stateOf b .due) ≡ false → (n : ℕ) → z ≡ negsuc n → (Natural b (negsuc n) → ⊥) → keyOf z < 2147483648 → Sign b z
+  above : isCoordinate (stateOf b .due) ≡ false → Natural b z → 2147483648 ≤ keyOf z → keyed b z ≡ keyOf z - 2147483648 → Sign b z
+
+sign : (b : Begun) (z : ℤ) → Sign b z
+sign (at-layer rs) (pos n) = above refl (n, refl) (omega arith) (omega arith)
+sign (at-layer rs) (negsuc n) = below refl n refl (λ u. let e = u .1 in clash (cc)) (omega arith)
+sign (at-count rs l) (pos n) = above refl (n, refl) (omega arith) (omega arith)
+sign (at-count rs l) (negsuc n) = below refl n refl (λ u. let e = u .1 in clash (cc)) (omega arith)
+sign (at-x rs l k ps) z = coordinate refl refl tt
+sign (at-y rs l k ps x) z = coordinate refl refl tt
+
+pub record Passed (b : Begun) (z : ℤ) (i v next : ℕ) : Type 0 where
+  pub natural : Natural b z
+  pub value : v ≡ keyed b z
+  pub fault : faultOf limit (stateOf b) v ≡ 0
+  pub fine : Fine limit b z
+  pub place : next ≡ i + 1
+
+module _ (b : Begun) (z : ℤ) (i : ℕ) (g : Good limit b) where
+  due-value : (v next : ℕ) → dueInList limit (stateOf b) (keyOf z) i ≡ Value v next → Passed b z i v next
+  unfolding dueInList
+  due-value v next e = go (sign b z)
+    where
+      whole : Natural b z → judgedAs limit (stateOf b) (keyed b z) i (i + 1) ≡ Value v next → Passed b z i v next
+      whole u q =
+          let j = judged-value limit (stateOf b) (keyed b z) i (i + 1) v next q in
+          record { natural = u; value = j .1 .0; fault = subst⁻¹ (λ (x : ℕ). faultOf limit (stateOf b) x ≡ 0) (j .1 .0) (j .0); fine = verdict limit (lit≤ tt) b z 0 g u .fine (j .0); place = j .1 .1 }
+
+      go : Sign b z → Passed b z i v next
+      go (coordinate c k u) = whole u (rw k (rw c at e))
+      go (below c n q u h) = let w : Refused 15 i ≡ Value v next = rw (c, lt-ltb (keyOf z) 2147483648 h) at e in clash (cc)
+      go (above c u h k) = whole u (rw k (rw (c, le-ltb (keyOf z) 2147483648 h) at e))
+
+  due-refused : (m p : ℕ) → dueInList limit (stateOf b) (keyOf z) i ≡ Refused m p → Judged limit b z i (answer m p)
+  unfolding dueInList
+  due-refused m p e = go (sign b z)
+    where
+      whole : Natural b z → judgedAs limit (stateOf b) (keyed b z) i (i + 1) ≡ Refused m p → Judged limit b z i (answer m p)
+      whole u q =
+          let j = judged-refused limit (stateOf b) (keyed b z) i (i + 1) m p q in
+          subst⁻¹ (λ (a : Answer). Judged limit b z i a) (ap₂ answer (j .1 .0) (j .1 .1)) (verdict limit (lit≤ tt) b z i g u .refused (j .0))
+
+      go : Sign b z → Judged limit b z i (answer m p)
+      go (coordinate c k u) = whole u (rw k (rw c at e))
+      go (below c n q u h) =
+          let w : Refused 15 i ≡ Refused m p = rw (c, lt-ltb (keyOf z) 2147483648 h) at e in
+          let x : m ≡ 15 = cc in
+          let y : p ≡ i = cc in
+          rw (q, x, y) (negative limit b n i u)
+      go (above c u h k) = whole u (rw k (rw (c, le-ltb (keyOf z) 2147483648 h) at e))
+
+-- ---- along the list
+
+module _ (ns : List ℤ) (b : Begun) (s : State) (i : ℕ) (w : ListAt ns b s i) where
+  good : Good limit b
+  good = good-begins (w .list)
+
+  pub list-sane : Sane s
+  list-sane = subst⁻¹ Sane (w .state) (sane b good)
+
+  here : (r x : Reading) → r ≡ dueInList limit s (keyOf (getD ns i (pos 0))) i → r ≡ x → dueInList limit (stateOf b) (keyOf (getD ns i (pos 0))) i ≡ x
+  here r x e q = sym (ap (λ (t : State). dueInList limit t (keyOf (getD ns i (pos 0))) i) (w .state)) ∙ sym e ∙ q
+
+  module _ (lt : i < length ns) where
+    take-next : take (i + 1) ns ≡ take i ns ++ getD ns i (pos 0) ∷ []
+    take-next = rw add-one (take-suc ns i (pos 0) lt)
+
+    module _ (r : Reading) (v next : ℕ) (e : r ≡ dueInList limit s (keyOf (getD ns i (pos 0))) i) (q : r ≡ Value v next) where
+      pub passed : Passed b (getD ns i (pos 0)) i v next
+      passed = due-value b (getD ns i (pos 0)) i good v next (here r (Value v next) e q)
+
+      pub list-fault-free : faultOf limit s v ≡ 0
+      list-fault-free = subst⁻¹ (λ (t : State). faultOf limit t v ≡ 0) (w .state) (passed .fault)
+
+      pub list-at-next : ListAt ns (after b (getD ns i (pos 0))) (nextOf s v) next
+      list-at-next =
+          record {
+            state = ap₂ nextOf (w .state) (passed .value) ∙ next-state limit b (getD ns i (pos 0)) good (passed .fine);
+            list = rw (passed .place, take-next) (more (getD ns i (pos 0)) (getD ns i (pos 0) ∷ []) (w .list) refl (passed .fine));
+            within = omega (arith, passed .place);
+          }
+
+    pub list-refused : (r : Reading) (m p : ℕ) → r ≡ dueInList limit s (keyOf (getD ns i (pos 0))) i → r ≡ Refused m p → ListFault limit ns (answer m p)
+    list-refused r m p e q =
+        record {
+          begun = b;
+          front = take i ns;
+          rest = drop i ns;
+          is = sym (take-append-drop i ns);
+          begins = w .list;
+          due = inr (λ a j. nonempty (j .0 .0), (getD ns i (pos 0), drop (suc i) ns, drop-cons ns i (pos 0) lt, rw (length-take-le i ns (w .within)) (due-refused b (getD ns i (pos 0)) i good m p (here r (Refused m p) e q))));
+        }
+      where
+        nonempty : drop i ns ≡ [] → ⊥
+        nonempty x = let k : [] ≡ getD ns i (pos 0) ∷ drop (suc i) ns = sym x ∙ drop-cons ns i (pos 0) lt in clash (cc)
+
+  module _ (over : length ns ≤ i) where
+    pub list-over : mayEnd (s .due) ≡ true → (rs : List Ring) × (b ≡ at-layer rs) × GoodRings limit rs × (ns ≡ numbersOf rs)
+    list-over e = go b refl (subst (λ (t : State). mayEnd (t .due) ≡ true) (w .state) e)
+      where
+        go : (c : Begun) → b ≡ c → mayEnd (stateOf c .due) ≡ true → (rs : List Ring) × (b ≡ at-layer rs) × GoodRings limit rs × (ns ≡ numbersOf rs)
+        go (at-layer rs) q t =
+            let k = list-begins limit rs (take i ns) (subst (λ (c : Begun). Begins limit ListSpells [] c (take i ns)) q (w .list)) in
+            (rs, q, k .0, sym (take-all i ns over) ∙ k .1)
+        go (at-count rs l) q t = absurd (false≢true t)
+        go (at-x rs l k ps) q t = absurd (false≢true t)
+        go (at-y rs l k ps x) q t = absurd (false≢true t)
+
+    pub list-short : mayEnd (s .due) ≡ false → ListFault limit ns (answer 12 (length ns))
+    list-short e =
+        record { begun = b; front = take i ns; rest = drop i ns; is = sym (take-append-drop i ns); begins = w .list; due = inl ((drop-of-length-le ns over, λ d. not-end b d (subst (λ (t : State). mayEnd (t .due) ≡ false) (w .state) e)), refl) }
+      where
+        not-end : (b : Begun) → MayEnd b → mayEnd (stateOf b .due) ≡ false → ⊥
+        not-end (at-layer rs) d t = true≢false t
+        not-end (at-count rs l) d t = d
+        not-end (at-x rs l k ps) d t = d
+        not-end (at-y rs l k ps x) d t = d
+
+-- ---- the whole call: r is the outcome with no room, none
+
+module _ {B : Type 0} (make : List Ring → List B) (ns : List ℤ) (out none none′ : List B) (r : Reading) (o : Outcome make ns none r none′) where
+  pub call-refused : (n p : ℕ) (a : Answer) → r ≡ Refused n p → a ≡ answerOf r → OfList make ns out (a, out)
+  call-refused n p a q e = rw e (go o)
+    where
+      go : Outcome make ns none r none′ → OfList make ns out (answerOf r, out)
+      go (inl x) = list-fault make ns out (answerOf r) (x .fault)
+      go (inr x) = let w : Value (length (make (x .rings))) (length ns) ≡ Refused n p = sym (x .is) ∙ q in clash (cc)
+
+  module _ (v next : ℕ) (q : r ≡ Value v next) where
+    made : Made make ns none r none′
+    made = go o
+      where
+        go : Outcome make ns none r none′ → Made make ns none r none′
+        go (inl x) = let w : Refused (x .number) (x .value) ≡ Value v next = sym (x .is) ∙ q in clash (cc)
+        go (inr x) = x
+
+    needed : v ≡ length (make (made .rings))
+    needed = let w : Value v next ≡ Value (length (make (made .rings))) (length ns) = sym q ∙ made .is in cc
+
+    pub call-room : (a : Answer) → length out < v → a ≡ answer 18 v → OfList make ns out (a, out)
+    call-room a h e =
+        rw (e, needed) (list-laid make ns out (made .rings) (room-too-short (length (make (made .rings))), out) (made .good) (made .list) (laid-short (make (made .rings)) out (omega (arith, needed))))
+
+    pub call-done : (a : Answer) (s : Reading) (after-out : List B) → v ≤ length out → a ≡ accepted v → Outcome make ns out s after-out → OfList make ns out (a, after-out)
+    call-done a s after-out h e (inl x) =
+        absurd (list-fault-none limit (made .rings) (made .good) (answerOf s) (subst (λ (l : List ℤ). ListFault limit l (answerOf s)) (made .list) (x .fault)))
+    call-done a s after-out h e (inr x) =
+        let k : x .rings ≡ made .rings = one-list limit (x .rings) (made .rings) (x .good) (made .good) (sym (x .list) ∙ made .list) in
+        let n : v ≡ length (make (x .rings)) = needed ∙ ap (λ (rs : List Ring). length (make rs)) (sym k) in
+        let u : after-out ≡ make (x .rings) ++ drop (length (make (x .rings))) out = x .wrote ∙ sets-all (make (x .rings)) out (omega arith) in
+        rw (e, n, u) (list-laid make ns out (x .rings) (accepted (length (make (x .rings))), make (x .rings) ++ drop (length (make (x .rings))) out) (x .good) (x .list) (laid-done (make (x .rings)) out (omega arith)))
