@@ -2,6 +2,7 @@
 --
 --   part ns k j     number j of record k
 --   edgeAt ns k     the edge that record k is
+--   none            any edge, for what stands past the end of a list
 --   edges-length    there is an edge for each four numbers
 --   edges-at        and edge k is that of record k
 use mathlib.Core.Path.{_≡_, refl, sym, ap, _∙_}
@@ -17,6 +18,9 @@ part ns k j = getD ns (4 * k + j) (pos 0)
 
 unfoldable pub edgeAt : List ℤ → ℕ → Edge ℤ
 edgeAt ns k = edge (part ns k 0) (part ns k 1) (part ns k 2) (part ns k 3)
+
+abbrev pub none : Edge ℤ
+none = edge (pos 0) (pos 0) (pos 0) (pos 0)
 
 pub edges-length : (ns : List ℤ) → length (edgesOf ns) ≡ length ns / 4
 unfolding edgesOf

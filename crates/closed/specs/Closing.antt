@@ -19,6 +19,7 @@ use Rattle.meaning.specs.Numbers.{bit, eqZ, inRange, step}
 use Rattle.meaning.specs.Edges.{Edge, edge, on, number, Closed, soundEdge}
 use Rattle.basics.specs.Tests.{eqb-same}
 use Rattle.basics.specs.Steps.{lift, step-le, step-lift}
+use Rattle.basics.specs.Fours.{none}
 use Rattle.laws.specs.Columns.{toUpTo, fromUpTo, closed-up-to, up-to-closed}
 use Rattle.basics.specs.Sums.{sumOf}
 use Rattle.sums.specs.Sums.{sumTo, where-true}
@@ -29,23 +30,19 @@ use Rattle.balance.specs.Balanced.{upTo, EvenAt, Balanced, always, first-at}
 use Rattle.balance.specs.declared.Balance.{Balance}
 use Rattle.balance.specs.declared.Balance.the-variants.{Even, Uneven}
 
--- any edge, for what stands past the end of a list
-abbrev pub none : Edge ℤ
-none = edge (pos 0) (pos 0) (pos 0) (pos 0)
+abbrev pub theLayer : Edge ℤ → ℤ
+theLayer (edge l y f t) = l
 
-abbrev pub layerZ : Edge ℤ → ℤ
-layerZ (edge l y f t) = l
+abbrev pub theFrom : Edge ℤ → ℤ
+theFrom (edge l y f t) = f
 
-abbrev pub fromZ : Edge ℤ → ℤ
-fromZ (edge l y f t) = f
-
-abbrev pub toZ : Edge ℤ → ℤ
-toZ (edge l y f t) = t
+abbrev pub theTo : Edge ℤ → ℤ
+theTo (edge l y f t) = t
 
 pub record CornersOf (L : ℕ) (es : List (Edge ℤ)) (xs tags : List ℕ) : Type 0 where
   pub long : length xs ≡ length es + length es
-  pub ends : Pairs (λ j. lift L (fromZ (getD es j none))) (λ j. lift L (toZ (getD es j none))) xs (length es)
-  pub tagged : Pairs (λ j. natAbs (layerZ (getD es j none)) * 2) (λ j. natAbs (layerZ (getD es j none)) * 2 + 1) tags (length es)
+  pub ends : Pairs (λ j. lift L (theFrom (getD es j none))) (λ j. lift L (theTo (getD es j none))) xs (length es)
+  pub tagged : Pairs (λ j. natAbs (theLayer (getD es j none)) * 2) (λ j. natAbs (theLayer (getD es j none)) * 2 + 1) tags (length es)
 
 abbrev pub AllSound : ℕ → ℕ → List (Edge ℤ) → Type 0
 AllSound top L es = (j : ℕ) → j < length es → soundEdge top L (getD es j none) ≡ true
@@ -125,11 +122,11 @@ outside-same L f t (negsuc n) hf ht h = let l : L < suc n = leb-false (suc n) L 
 
 -- ---- all edges
 
-from-test : (L c k : ℕ) (e : Edge ℤ) → soundEdge 7 L e ≡ true → (on c e && fromUpTo (step L k) e) ≡ (eqb (natAbs (layerZ e)) c && leb (lift L (fromZ e)) k)
+from-test : (L c k : ℕ) (e : Edge ℤ) → soundEdge 7 L e ≡ true → (on c e && fromUpTo (step L k) e) ≡ (eqb (natAbs (theLayer e)) c && leb (lift L (theFrom e)) k)
 unfolding on fromUpTo
 from-test L c k (edge l y f t) h = let S = sound-parts 7 L l y f t h in ap₂ _&&_ (layer-test l c (S .natural)) (step-test L f k (S .from-in))
 
-to-test : (L c k : ℕ) (e : Edge ℤ) → soundEdge 7 L e ≡ true → (on c e && toUpTo (step L k) e) ≡ (eqb (natAbs (layerZ e)) c && leb (lift L (toZ e)) k)
+to-test : (L c k : ℕ) (e : Edge ℤ) → soundEdge 7 L e ≡ true → (on c e && toUpTo (step L k) e) ≡ (eqb (natAbs (theLayer e)) c && leb (lift L (theTo e)) k)
 unfolding on toUpTo
 to-test L c k (edge l y f t) h = let S = sound-parts 7 L l y f t h in ap₂ _&&_ (layer-test l c (S .natural)) (step-test L t k (S .to-in))
 
@@ -147,8 +144,8 @@ module _ (L : ℕ) (es : List (Edge ℤ)) (xs tags : List ℕ) (sound : AllSound
   -- two corners at a time
   by-edges : (t k : ℕ)
       → upTo xs tags t k
-      ≡ sumTo (length es) (λ j. where-true (leb (lift L (fromZ (getD es j none))) k) (bit (eqb (natAbs (layerZ (getD es j none)) * 2) t))
-      + where-true (leb (lift L (toZ (getD es j none))) k) (bit (eqb (natAbs (layerZ (getD es j none)) * 2 + 1) t)))
+      ≡ sumTo (length es) (λ j. where-true (leb (lift L (theFrom (getD es j none))) k) (bit (eqb (natAbs (theLayer (getD es j none)) * 2) t))
+      + where-true (leb (lift L (theTo (getD es j none))) k) (bit (eqb (natAbs (theLayer (getD es j none)) * 2 + 1) t)))
   unfolding upTo
   by-edges t k =
       let h : ℕ → ℕ = λ j. where-true (leb (getD xs j 0) k) (bit (eqb (getD tags j 0) t)) in
@@ -156,7 +153,7 @@ module _ (L : ℕ) (es : List (Edge ℤ)) (xs tags : List ℕ) (sound : AllSound
       ap (λ n. sumTo n h) (C .long)
       ∙ sumTo-twice (length es) h
       ∙ sumTo-same (length es) (λ j. h (j + j) + h (j + j + 1))
-      (λ j. w (lift L (fromZ (getD es j none))) (natAbs (layerZ (getD es j none)) * 2) + w (lift L (toZ (getD es j none))) (natAbs (layerZ (getD es j none)) * 2 + 1))
+      (λ j. w (lift L (theFrom (getD es j none))) (natAbs (theLayer (getD es j none)) * 2) + w (lift L (theTo (getD es j none))) (natAbs (theLayer (getD es j none)) * 2 + 1))
       (λ j l. ap₂ _+_ (ap₂ w (C .ends j l .0) (C .tagged j l .0)) (ap₂ w (C .ends j l .1) (C .tagged j l .1)))
 
   froms-are : (c k : ℕ) → upTo xs tags (c + c) k ≡ number (λ e. on c e && fromUpTo (step L k) e) es
@@ -164,7 +161,7 @@ module _ (L : ℕ) (es : List (Edge ℤ)) (xs tags : List ℕ) (sound : AllSound
       by-edges (c + c) k
       ∙ sumTo-same (length es) _ (λ j. bit (on c (getD es j none) && fromUpTo (step L k) (getD es j none)))
       (λ j l. let e = getD es j none in
-      pair-from (natAbs (layerZ e)) c (lift L (fromZ e)) (lift L (toZ e)) k ∙ ap bit (sym (from-test L c k e (sound j l))))
+      pair-from (natAbs (theLayer e)) c (lift L (theFrom e)) (lift L (theTo e)) k ∙ ap bit (sym (from-test L c k e (sound j l))))
       ∙ sym (number-is (λ e. on c e && fromUpTo (step L k) e) es)
 
   tos-are : (c k : ℕ) → upTo xs tags (c + c + 1) k ≡ number (λ e. on c e && toUpTo (step L k) e) es
@@ -172,7 +169,7 @@ module _ (L : ℕ) (es : List (Edge ℤ)) (xs tags : List ℕ) (sound : AllSound
       by-edges (c + c + 1) k
       ∙ sumTo-same (length es) _ (λ j. bit (on c (getD es j none) && toUpTo (step L k) (getD es j none)))
       (λ j l. let e = getD es j none in
-      pair-to (natAbs (layerZ e)) c (lift L (fromZ e)) (lift L (toZ e)) k ∙ ap bit (sym (to-test L c k e (sound j l))))
+      pair-to (natAbs (theLayer e)) c (lift L (theFrom e)) (lift L (theTo e)) k ∙ ap bit (sym (to-test L c k e (sound j l))))
       ∙ sym (number-is (λ e. on c e && toUpTo (step L k) e) es)
 
   closed-of : ((k : ℕ) → EvenAt xs tags k) → Closed es

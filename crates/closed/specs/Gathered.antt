@@ -13,35 +13,35 @@ use lib.IntN.{ℤ, natAbs}
 use lib.ListN.{length, getD, length-map, List·getD-map}
 use Rattle.meaning.specs.Edges.{Edge, edge, edgesOf, soundEdge}
 use Rattle.basics.specs.Steps.{lift}
-use Rattle.basics.specs.Fours.{edges-length, edges-at}
+use Rattle.basics.specs.Fours.{none, edges-length, edges-at}
 use Rattle.sums.specs.Pairs.{Pairs, pairs-below}
 use Rattle.buckets.specs.Buckets.{Below}
 use Rattle.edge.specs.Keys.{sound-parts, layer-low}
 use Rattle.columns.specs.Kept.{keeps, kept, lifted, layerOf, fromOf, toOf, Sound, over, Columns}
 use Rattle.columns.specs.Laws.{all-bits, kept-all, over-at}
-use Rattle.closed.specs.Closing.{none, layerZ, fromZ, toZ, CornersOf, AllSound}
+use Rattle.closed.specs.Closing.{theLayer, theFrom, theTo, CornersOf, AllSound}
 
 pub all-sound : (top L : ℕ) (ns : List ℤ) → Sound top L ns → AllSound top L (edgesOf ns)
 all-sound top L ns S j h =
     let l : j < length ns / 4 = omega (arith, edges-length ns) in
     ap (soundEdge top L) (edges-at ns j none l) ∙ S .each j l
 
-layer-seven : (L : ℕ) (e : Edge ℤ) → soundEdge 7 L e ≡ true → natAbs (layerZ e) < 8
+layer-seven : (L : ℕ) (e : Edge ℤ) → soundEdge 7 L e ≡ true → natAbs (theLayer e) < 8
 layer-seven L (edge l y f t) h = let P = sound-parts 7 L l y f t h in omega (arith, layer-low l 7 (P .natural) (P .low))
 
 keeps-sound : (L : ℕ) (e : Edge ℤ) → soundEdge 7 L e ≡ true → keeps 255 e ≡ true
 unfolding keeps
 keeps-sound L (edge l y f t) h = all-bits (natAbs l) (layer-seven L (edge l y f t) h)
 
-lifted-layer : (L : ℕ) (e : Edge ℤ) → layerOf (lifted L e) ≡ natAbs (layerZ e)
+lifted-layer : (L : ℕ) (e : Edge ℤ) → layerOf (lifted L e) ≡ natAbs (theLayer e)
 unfolding lifted
 lifted-layer L (edge l y f t) = refl
 
-lifted-from : (L : ℕ) (e : Edge ℤ) → fromOf (lifted L e) ≡ lift L (fromZ e)
+lifted-from : (L : ℕ) (e : Edge ℤ) → fromOf (lifted L e) ≡ lift L (theFrom e)
 unfolding lifted
 lifted-from L (edge l y f t) = refl
 
-lifted-to : (L : ℕ) (e : Edge ℤ) → toOf (lifted L e) ≡ lift L (toZ e)
+lifted-to : (L : ℕ) (e : Edge ℤ) → toOf (lifted L e) ≡ lift L (theTo e)
 unfolding lifted
 lifted-to L (edge l y f t) = refl
 
@@ -55,7 +55,7 @@ module _ (L : ℕ) (ns : List ℤ) (S : Sound 7 L ns) (ls ys fs ts ls′ ys′ f
       ∙ over-at f (map (lifted L) (edgesOf ns)) old j (lifted L none) (omega (arith, length-map (edgesOf ns) (lifted L)))
       ∙ ap f (List·getD-map (lifted L) (edgesOf ns) j none)
 
-  layer-at : (j : ℕ) → j < length (edgesOf ns) → getD ls′ j 0 ≡ natAbs (layerZ (getD (edgesOf ns) j none))
+  layer-at : (j : ℕ) → j < length (edgesOf ns) → getD ls′ j 0 ≡ natAbs (theLayer (getD (edgesOf ns) j none))
   layer-at j h = column-at layerOf ls ls′ (C .layers) j h ∙ lifted-layer L (getD (edgesOf ns) j none)
 
   layer-less : (j : ℕ) → j < length (edgesOf ns) → getD ls′ j 0 < 8

@@ -2,22 +2,24 @@
 --
 --   Keyed z r                 r is the key of z, a 32-bit number
 --   layer-key, coordinate-key the tests of a sound edge, by keys
---   SoundParts, sound-parts   what a sound edge's numbers are
+--   SoundParts, sound-parts, number-in   what a sound edge's numbers are
 --   layer-above, layer-is, layer-low   a layer is its key, less 2^31
 --   coordinate-above, lift-is a coordinate moved up by 2^30 is its key, less 2^30
 use mathlib.Core.Path.{_≡_, refl, sym, ap₂, _∙_}
 use mathlib.Core.Bool.{true, _&&_, false≢true}
-use Prim.Native.Nat.{ℕ, suc, _+_, _-_, _≤_, _<_}
+use Prim.Native.Nat.{ℕ, zero, suc, _+_, _-_, _≤_, _<_}
 use native.Mathlib.Omega.{arith}
 use lib.Dec.{leb}
 use lib.IntN.{ℤ, pos, negsuc, natAbs}
 use lib.Signed.{mag, leZ}
+use mathlib.Core.List.{List}
 use borrow.Author.Tests.{leb-true, le-leb}
 use Rattle.meaning.specs.Numbers.{limit, inRange}
 use Rattle.meaning.specs.Edges.{edge, soundEdge}
 use Rattle.basics.specs.Tests.{and-left, and-right, and-on, leb-same}
 use Rattle.basics.specs.Signed.{keyOf, le-key}
 use Rattle.basics.specs.Steps.{lift}
+use Rattle.basics.specs.Fours.{part, edgeAt}
 
 pub record Keyed (z : ℤ) (r : ℕ) : Type 0 where
   pub is : r ≡ keyOf z
@@ -55,6 +57,18 @@ sound-parts top L l y f t e =
       from-in = and-left (inRange L f) (inRange L t) c;
       to-in = and-right (inRange L f) (inRange L t) c;
     }
+
+-- its three coordinates, number by number
+pub number-in : (ns : List ℤ) (k j : ℕ) → soundEdge 7 limit (edgeAt ns k) ≡ true → 0 < j → j < 4 → inRange limit (part ns k j) ≡ true
+unfolding edgeAt
+number-in ns k j e h l = go j h l (sound-parts 7 limit (part ns k 0) (part ns k 1) (part ns k 2) (part ns k 3) e)
+  where
+    go : (j : ℕ) → 0 < j → j < 4 → SoundParts 7 limit (part ns k 0) (part ns k 1) (part ns k 2) (part ns k 3) → inRange limit (part ns k j) ≡ true
+    go zero h l P = absurd (omega arith)
+    go (suc zero) h l P = P .y-in
+    go (suc (suc zero)) h l P = P .from-in
+    go (suc (suc (suc zero))) h l P = P .to-in
+    go (suc (suc (suc (suc j)))) h l P = absurd (omega arith)
 
 module _ (z : ℤ) (r : ℕ) (K : Keyed z r) (natural : leZ (pos 0) z ≡ true) where
   natural-key : (z : ℤ) → leZ (pos 0) z ≡ true → keyOf z ≡ natAbs z + 2147483648

@@ -5,7 +5,7 @@ ghost use Prim.Native.Nat.{_+_, _*_, _<_};
 ghost use lib.Dec.{leb};
 ghost use lib.IntN.{natAbs};
 ghost use lib.ListN.{length};
-ghost use Rattle.meaning.specs.Numbers.{limit, inRange};
+ghost use Rattle.meaning.specs.Numbers.{limit};
 ghost use Rattle.meaning.specs.Edges.{soundEdge, flat};
 ghost use Rattle.basics.specs.Steps.{lift};
 ghost use Rattle.basics.specs.Fours.{part, edgeAt};
@@ -52,7 +52,7 @@ pub fn sound(edges: &[i32], k: usize, top: u32) -> bool
 }
 
 // Whether its from equals its to.
-pub fn level(edges: &[i32], k: usize) -> bool
+pub fn equal_ends(edges: &[i32], k: usize) -> bool
     requires { ⌜ 4 * k + 3 < length (now edges) ⌝ }
     ensures { λ r. ⌜ r ≡ flat (edgeAt (now (edges .entry)) k) ⌝ }
 {
@@ -67,9 +67,10 @@ pub fn layer(edges: &[i32], k: usize) -> u32
     key_at(edges, k, 0) - 2147483648
 }
 
-// Number j of record k, a coordinate, moved up by 2^30.
+// Number j of a sound record, 1 for y, 2 for from, 3 for to, moved up by 2^30.
 pub fn coordinate(edges: &[i32], k: usize, j: usize) -> u32
-    requires { ⌜ (4 * k + j < length (now edges)) × (inRange limit (part (now edges) k j) ≡ true) ⌝ }
+    requires { ⌜ (4 * k + 3 < length (now edges)) × (soundEdge 7 limit (edgeAt (now edges) k) ≡ true) ⌝ }
+    requires { ⌜ (0 < j) × (j < 4) ⌝ }
     ensures { λ r. ⌜ r ≡ lift limit (part (now (edges .entry)) k j) ⌝ }
 {
     key_at(edges, k, j) - 1073741824

@@ -2,9 +2,9 @@
 --
 --   FineTo top L ns k       the first k records are sound and have two ends
 --   fine-start, fine-more, fine-sound   none so far; one record more; and where all are fine, the list is sound
---   range-row, level-row    the row that gives the answer, after records that are fine
+--   range-row, equal-row    the row that gives the answer, after records that are fine
 --   past-records            all records are fine: what follows their rows decides
---   odd-answer, many-answer, range-answer, level-answer, open-answer, fine-answer   each answer of `judge` meets the table
+--   odd-answer, many-answer, range-answer, equal-answer, open-answer, fine-answer   each answer of `judge` meets the table
 --   one-judged              ANSWERS THAT MEET THE CONTRACT OF `judge` ARE EQUAL
 --   accepted-is             an accepted list is sound and closed
 use mathlib.Core.Path.{_≡_, refl, sym, ap, _∙_, subst}
@@ -24,11 +24,10 @@ use Rattle.meaning.specs.Numbers.{inRange}
 use Rattle.meaning.specs.Answers.{Answer, answer, Row, given, First, accepted, not-fours, too-many-edges, out-of-range, from-equals-to, not-closed}
 use Rattle.meaning.specs.Edges.{Edge, edge, edgesOf, on, west, east, number, Closed, soundEdge, flat, recordRows, edgeRows}
 use Rattle.basics.specs.Tables.{Singles, single-given, one-answer, not-given}
-use Rattle.basics.specs.Fours.{edgeAt, edges-length, edges-at}
+use Rattle.basics.specs.Fours.{edgeAt, none, edges-length, edges-at}
 use Rattle.edge.specs.Keys.{sound-parts}
 use Rattle.columns.specs.Kept.{Sound}
 use Rattle.edges.specs.Answering.{answerOf}
-use Rattle.closed.specs.Closing.{none}
 use Rattle.edges.specs.declared.Judged.{Judged}
 use Rattle.edges.specs.declared.Judged.the-variants.{Fine, NotFours, TooManyEdges, OutOfRange, FromEqualsTo, NotClosed}
 
@@ -61,13 +60,13 @@ module _ (top L : ℕ) (rest : List (Row Answer)) (Last : Row Answer) where
       next : (k i : ℕ) → suc k + i ≡ k + suc i
       next k i = omega arith
 
-  pub level-row : (es : List (Edge ℤ)) (k i : ℕ) → ((j : ℕ) → j < i → Good top L (getD es j none)) → i < length es → soundEdge top L (getD es i none) ≡ true → flat (getD es i none) ≡ true
+  pub equal-row : (es : List (Edge ℤ)) (k i : ℕ) → ((j : ℕ) → j < i → Good top L (getD es j none)) → i < length es → soundEdge top L (getD es i none) ≡ true → flat (getD es i none) ≡ true
       → First (recordRows top L k es ++ rest) Last (from-equals-to (k + i))
-  level-row [] k i good h s e = absurd (not-suc-le-zero h)
-  level-row (x ∷ es) k zero good h s e = inr (not-given (out-of-range k) (λ f. true≢false (sym s ∙ f)), inl (e, ap from-equals-to (add-zero k)))
-  level-row (x ∷ es) k (suc i) good h s e =
+  equal-row [] k i good h s e = absurd (not-suc-le-zero h)
+  equal-row (x ∷ es) k zero good h s e = inr (not-given (out-of-range k) (λ f. true≢false (sym s ∙ f)), inl (e, ap from-equals-to (add-zero k)))
+  equal-row (x ∷ es) k (suc i) good h s e =
       let G = good 0 (omega arith) in
-      inr (sound-not x k G, inr (flat-not x k G, subst (λ n. First (recordRows top L (suc k) es ++ rest) Last (from-equals-to n)) (next k i) (level-row es (suc k) i (λ j l. good (suc j) (omega arith)) (le-of-suc-le-suc h) s e)))
+      inr (sound-not x k G, inr (flat-not x k G, subst (λ n. First (recordRows top L (suc k) es ++ rest) Last (from-equals-to n)) (next k i) (equal-row es (suc k) i (λ j l. good (suc j) (omega arith)) (le-of-suc-le-suc h) s e)))
     where
       next : (k i : ℕ) → suc k + i ≡ k + suc i
       next k i = omega arith
@@ -137,10 +136,10 @@ module _ (top L : ℕ) (ns : List ℤ) (k : ℕ) (F : FineTo top L ns k) where
       past-two (out-of-range k)
       (subst (λ n. First (recordRows top L 0 (edgesOf ns) ++ closing ns) Accepts (out-of-range n)) (zero-add k) (range-row top L (closing ns) Accepts (edgesOf ns) 0 k good (omega (arith, edges-length ns)) (ap (soundEdge top L) (edges-at ns k none h) ∙ e)))
 
-  pub level-answer : k < length ns / 4 → soundEdge top L (edgeAt ns k) ≡ true → flat (edgeAt ns k) ≡ true → First (edgeRows top L ns) Accepts (from-equals-to k)
-  level-answer h s e =
+  pub equal-answer : k < length ns / 4 → soundEdge top L (edgeAt ns k) ≡ true → flat (edgeAt ns k) ≡ true → First (edgeRows top L ns) Accepts (from-equals-to k)
+  equal-answer h s e =
       past-two (from-equals-to k)
-      (subst (λ n. First (recordRows top L 0 (edgesOf ns) ++ closing ns) Accepts (from-equals-to n)) (zero-add k) (level-row top L (closing ns) Accepts (edgesOf ns) 0 k good (omega (arith, edges-length ns)) (ap (soundEdge top L) (edges-at ns k none h) ∙ s) (ap flat (edges-at ns k none h) ∙ e)))
+      (subst (λ n. First (recordRows top L 0 (edgesOf ns) ++ closing ns) Accepts (from-equals-to n)) (zero-add k) (equal-row top L (closing ns) Accepts (edgesOf ns) 0 k good (omega (arith, edges-length ns)) (ap (soundEdge top L) (edges-at ns k none h) ∙ s) (ap flat (edges-at ns k none h) ∙ e)))
 
   module _ (all : length ns / 4 ≤ k) where
     past-all : (r : Answer) → First (closing ns) Accepts r → First (edgeRows top L ns) Accepts r

@@ -41,7 +41,7 @@ pub fn judge(edges: &[i32], top: u32) -> Judged
         if !edge::sound(edges, k, greatest) {
             return Judged::OutOfRange(k);
         }
-        if edge::level(edges, k) {
+        if edge::equal_ends(edges, k) {
             return Judged::FromEqualsTo(k);
         }
         k += 1;

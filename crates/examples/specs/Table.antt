@@ -1,6 +1,7 @@
 -- The checked examples of document 01 that are proved, 1 to 10: one table, one meaning of right, one theorem.
 --
---   Example    what an example says: a run with its records and area; a call that is accepted; a refusal; what a record is drawn as
+--   Example    what an example says: a run with its records and area; a call that is accepted; a refusal; how a number is stored; what a file
+--              is answered; what a record is drawn as
 --   Right      what it means that an example is right, over the definitions
 --   table      the examples, to the letter; where one names no edge list it takes A and B, where it names no expression `a`
 --   checked    EVERY EXAMPLE IS RIGHT
@@ -14,10 +15,12 @@ use lib.Ieee.{binary32, toBits}
 use lib.IntN.{ℤ, pos}
 use lib.ListN.{length, drop}
 use Rattle.meaning.specs.Numbers.{eqZ, step}
-use Rattle.meaning.specs.Answers.{Answer, accepted, not-closed, not-in-grammar, holds-on-nothing}
+use Rattle.meaning.specs.Answers.{Answer, accepted, not-closed, not-in-grammar, holds-on-nothing, ends-inside, bad-number}
 use Rattle.meaning.specs.Edges.{edgesOf, covers, number, on, west, east, soundEdge, flat}
 use Rattle.meaning.specs.Expression.{bytes, eval}
 use Rattle.meaning.specs.Records.{numbersOf}
+use Rattle.meaning.specs.MaskFile.{spelt, five, signed}
+use Rattle.meaning.specs.Faults.{Read}
 use Rattle.meaning.specs.Calls.{outcome, Runs, Areas}
 use Rattle.basics.specs.Tests.{spans}
 use Rattle.basics.specs.Lists.{All}
@@ -27,6 +30,7 @@ use Rattle.grid.specs.ClosedTest.{allBy, closedTest, closedOver, layersOf}
 use Rattle.basics.specs.Sums.{sumOf}
 use Rattle.expression_laws.specs.Reader.{letterAt, read, reads}
 use Rattle.expression_laws.specs.Judging.{answerTo}
+use Rattle.maskcalls.specs.Examples.{stored-100, stored-limit, bytes-80-00, file-01, empty-file}
 use Rattle.drawing.specs.Drawing.{Drawing}
 use Rattle.drawing.specs.declared.Floats.{Floats}
 use Rattle.drawing.specs.declared.Drawn.{Drawn}
@@ -42,6 +46,10 @@ pub data Example : Type 0 where
   accepts : List ℤ → List ℕ → Example
   -- they are refused with this answer
   refuses : List ℤ → List ℕ → Answer → Example
+  -- the signed number is stored as these bytes
+  stores : ℤ → List ℕ → Example
+  -- the mask file is answered so, and the buffer stays as it was
+  reads-as : List ℕ → Answer → Example
   -- the record (kind, place, from, to), with the origin 0 and this zoom, is drawn as this, and its place has these bits
   draws : ℤ → ℤ → ℤ → ℤ → ℤ → Drawn → ℕ → Example
 
@@ -54,6 +62,8 @@ abbrev pub Right : Example → Type 0
 Right (gives ns text rs k n) = ((out : List ℤ) → 4 * k ≤ length out → Runs ns text out (outcome (accepted k) (rs ++ drop (4 * k) out))) × Areas ns text (accepted n)
 Right (accepts ns text) = (n : ℕ) × Areas ns text (accepted n)
 Right (refuses ns text a) = ((out : List ℤ) → Runs ns text out (outcome a out)) × Areas ns text a
+Right (stores z bs) = spelt five (signed z) ≡ bs
+Right (reads-as f a) = (out : List ℤ) → Read f out (a, out)
 Right (draws zoom kind place from to r bits) = Drawing (pos 0) (pos 0) zoom kind place from to r × (placeBits r ≡ bits)
 
 abbrev edge : ℕ → ℕ → ℕ → ℕ → List ℤ
@@ -102,6 +112,13 @@ table =
     ∷ refuses both (bytes "()") not-in-grammar
     -- 7
     ∷ refuses (edge 0 0 10 0) (bytes "a") not-closed
+    -- 8
+    ∷ stores (pos 100) (0xC8 ∷ 0x01 ∷ [])
+    ∷ stores (pos 1073741824) (0x80 ∷ 0x80 ∷ 0x80 ∷ 0x80 ∷ 0x08 ∷ [])
+    -- 9
+    ∷ reads-as (0x80 ∷ 0x00 ∷ []) (bad-number 0)
+    ∷ reads-as (0x01 ∷ []) (accepted 0)
+    ∷ reads-as [] (ends-inside 0)
     -- 10
     ∷ draws (pos 1) (pos 0) (pos 5) (pos 6) (pos 10) (Level carried) 0x4020_0000
     ∷ []
@@ -124,7 +141,7 @@ checked = (
               (36, area-is both refl refl (bytes "!a*b") _ refl refl refl 36 refl),
               (
                 refusal-is both refl refl (bytes "()") _ refl (λ z. omega arith),
-                (open-is (edge 0 0 10 0) refl refl 0 (pos 0) (λ z. omega arith) (bytes "a"), (example-10, tt)),
+                (open-is (edge 0 0 10 0) refl refl 0 (pos 0) (λ z. omega arith) (bytes "a"), (stored-100, (stored-limit, (bytes-80-00, (file-01, (empty-file, (example-10, tt))))))),
               ),
             ),
           ),

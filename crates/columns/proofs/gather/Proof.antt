@@ -2,11 +2,10 @@
 use mathlib.Core.Path.{_≡_, sym, subst, _∙_}
 use Prim.Native.Nat.{ℕ, _-_, _/_, _≤_, _<_}
 use native.Mathlib.Omega.{arith}
-use lib.IntN.{ℤ, pos}
 use lib.ListN.{length}
 use Rattle.meaning.specs.Numbers.{limit}
-use Rattle.meaning.specs.Edges.{Edge, edge, edgesOf}
-use Rattle.basics.specs.Fours.{edges-length, edges-at}
+use Rattle.meaning.specs.Edges.{edgesOf}
+use Rattle.basics.specs.Fours.{none, edges-length, edges-at}
 use Rattle.columns.specs.Kept.{keeps, lifted, Taken, Columns}
 use Rattle.columns.specs.Laws.{firstKept, gather-start, gather-more, gather-end, gather-low}
 use borrow.Author.Needs.{needs}
@@ -21,10 +20,6 @@ Inv-loop edges used ls₀ ys₀ fs₀ ts₀ m n₀ k₀ ls ys fs ts n k =
 
 abbrev μ-loop : tie.MeasureT-loop
 μ-loop edges used ls₀ ys₀ fs₀ ts₀ m n₀ k₀ ls ys fs ts n k = m - k
-
--- any edge, for what stands past the end of a list
-none : Edge ℤ
-none = edge (pos 0) (pos 0) (pos 0) (pos 0)
 
 loop-holds : tie.Need-loop-holds Inv-loop μ-loop
 loop-holds c =

@@ -1,24 +1,25 @@
 -- `columns::take_in` meets its contract. Assumes nothing.
 use mathlib.Core.Path.{_≡_, sym, ap, _∙_}
+use mathlib.Core.Bool.{true}
+use Prim.Native.Nat.{_+_, _*_, _<_}
 use native.Mathlib.Omega.{arith}
+use lib.ListN.{length}
 use borrow.Author.Tests.{not-true, not-false}
 use Rattle.meaning.specs.Numbers.{limit}
-use Rattle.basics.specs.Fours.{part, edgeAt}
-use Rattle.edge.specs.Keys.{SoundParts, sound-parts}
+use Rattle.meaning.specs.Edges.{soundEdge}
+use Rattle.basics.specs.Fours.{edgeAt}
 use Rattle.columns.specs.Kept.{bitOf, keeps, lifted}
 use Rattle.columns.specs.Laws.{taken-none, taken-one}
 use borrow.Author.Needs.{needs}
 use Rattle.columns.proofs.take_in.Statement.{statement}
 use Rattle.columns.proofs.take_in.Tie as tie
 
-parts : (s : tie.Start) → let ns = s .args .edges .now in SoundParts 7 limit (part ns (s .args .k) 0) (part ns (s .args .k) 1) (part ns (s .args .k) 2) (part ns (s .args .k) 3)
-unfolding edgeAt
-parts s =
-    let ns = s .args .edges .now in
-    sound-parts 7 limit (part ns (s .args .k) 0) (part ns (s .args .k) 1) (part ns (s .args .k) 2) (part ns (s .args .k) 3) (s .pre .0 .0 .each (s .args .k) (s .pre .0 .1))
+-- the record stands whole in the list, and is sound
+whole : (s : tie.Start) → (4 * s .args .k + 3 < length (s .args .edges .now)) × (soundEdge 7 limit (edgeAt (s .args .edges .now) (s .args .k)) ≡ true)
+whole s = (omega (arith, s .pre .0 .1), s .pre .0 .0 .each (s .args .k) (s .pre .0 .1))
 
 layer-requires : tie.Need-layer-requires
-layer-requires c κs = let s = c .before .before .before .before in (omega (arith, s .pre .0 .1), s .pre .0 .0 .each (s .args .k) (s .pre .0 .1))
+layer-requires c κs = whole (c .before .before .before .before)
 
 is-kept-requires : tie.Need-is-kept-requires
 is-kept-requires c κs = search needs
@@ -41,7 +42,7 @@ slice-write-ls : tie.Need-slice-write-ls
 slice-write-ls c = search needs
 
 coordinate-requires : tie.Need-coordinate-requires
-coordinate-requires c κs = let s = c .before .before .before .before .before .before .before in (omega (arith, s .pre .0 .1), parts s .y-in)
+coordinate-requires c κs = (whole (c .before .before .before .before .before .before .before), search needs)
 
 mul-ys : tie.Need-mul-ys
 mul-ys c = search needs
@@ -50,7 +51,7 @@ slice-write-ys : tie.Need-slice-write-ys
 slice-write-ys c = search needs
 
 coordinate-requires-2 : tie.Need-coordinate-requires-2
-coordinate-requires-2 c κs = let s = c .before .before .before .before .before .before .before .before in (omega (arith, s .pre .0 .1), parts s .from-in)
+coordinate-requires-2 c κs = (whole (c .before .before .before .before .before .before .before .before), search needs)
 
 mul-fs : tie.Need-mul-fs
 mul-fs c = search needs
@@ -59,7 +60,7 @@ slice-write-fs : tie.Need-slice-write-fs
 slice-write-fs c = search needs
 
 coordinate-requires-3 : tie.Need-coordinate-requires-3
-coordinate-requires-3 c κs = let s = c .before .before .before .before .before .before .before .before .before in (omega (arith, s .pre .0 .1), parts s .to-in)
+coordinate-requires-3 c κs = (whole (c .before .before .before .before .before .before .before .before .before), search needs)
 
 mul-ts : tie.Need-mul-ts
 mul-ts c = search needs

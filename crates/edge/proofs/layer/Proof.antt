@@ -19,7 +19,8 @@ parts c =
 
 sub-result : tie.Need-sub-result
 sub-result c =
-    let s = c .before in layer-above (part (s .args .edges .now) (s .args .k) 0) (c .key-at .result) (c .key-at .ensures) (parts c .natural)
+    let s = c .before in
+    omega (arith, layer-above (part (s .args .edges .now) (s .args .k) 0) (c .key-at .result) (c .key-at .ensures) (parts c .natural))
 
 returns : tie.Need-returns
 returns c =

@@ -8,7 +8,7 @@ use Rattle.meaning.specs.Edges.{soundEdge, edgesOf}
 use Rattle.basics.specs.Fours.{edgeAt}
 use Rattle.closed.specs.Closing.{even-closed, uneven-open}
 use Rattle.edges.specs.Answering.{heldTop}
-use Rattle.edges.specs.Rows.{FineTo, fine-start, fine-more, fine-sound, odd-answer, many-answer, range-answer, level-answer, open-answer, fine-answer}
+use Rattle.edges.specs.Rows.{FineTo, fine-start, fine-more, fine-sound, odd-answer, many-answer, range-answer, equal-answer, open-answer, fine-answer}
 use borrow.Author.Needs.{needs}
 use borrow.Author.Tests.{not-true, not-false}
 use Rattle.edges.proofs.judge.Statement.{statement}
@@ -21,10 +21,10 @@ abbrev μ-loop : tie.MeasureT-loop
 μ-loop edges top n greatest k₀ k = n - k
 
 returns : tie.Need-returns Inv-loop μ-loop
-returns c = let s = c .before in odd-answer (heldTop (s .args .top)) limit (s .args .edges .now) (c .if1 .taken)
+returns c = let s = c .before in odd-answer (heldTop (s .args .top)) limit (s .args .edges .now) (λ e. omega (arith, c .if1 .taken))
 
 returns-2 : tie.Need-returns-2 Inv-loop μ-loop
-returns-2 c = let s = c .before .before in many-answer (heldTop (s .args .top)) limit (s .args .edges .now) (c .before .if1 .left) (c .if2 .taken)
+returns-2 c = let s = c .before .before in many-answer (heldTop (s .args .top)) limit (s .args .edges .now) (c .before .if1 .left) (search needs)
 
 held-requires : tie.Need-held-requires Inv-loop μ-loop
 held-requires c κs = search needs
@@ -50,14 +50,14 @@ returns-3 c =
     let h = c .before .before .before .loop in
     range-answer (heldTop (s .args .top)) limit (s .args .edges .now) (h .k) (h .inv .1) (inside (c .before .before)) (sym (sound-told (c .before)) ∙ not-true _ (c .if3 .taken))
 
-level-requires : tie.Need-level-requires Inv-loop μ-loop
-level-requires c κs = omega (arith, inside (c .before .before))
+equal-ends-requires : tie.Need-equal-ends-requires Inv-loop μ-loop
+equal-ends-requires c κs = omega (arith, inside (c .before .before))
 
 returns-4 : tie.Need-returns-4 Inv-loop μ-loop
 returns-4 c =
     let s = c .before .before .before .before .before .before .before .before .before in
     let h = c .before .before .before .before .before .loop in
-    level-answer (heldTop (s .args .top)) limit (s .args .edges .now) (h .k) (h .inv .1) (inside (c .before .before .before .before)) (sym (sound-told (c .before .before .before)) ∙ not-false _ (c .before .before .if3 .left)) (sym (c .before .level .ensures) ∙ c .if4 .taken)
+    equal-answer (heldTop (s .args .top)) limit (s .args .edges .now) (h .k) (h .inv .1) (inside (c .before .before .before .before)) (sym (sound-told (c .before .before .before)) ∙ not-false _ (c .before .before .if3 .left)) (sym (c .before .equal-ends .ensures) ∙ c .if4 .taken)
 
 add-k : tie.Need-add-k Inv-loop μ-loop
 add-k c = search needs
@@ -69,7 +69,7 @@ loop-again : tie.Need-loop-again Inv-loop μ-loop
 loop-again c =
     let s = c .before .before .before .before .before .before .before .before .before in
     let h = c .before .before .before .before .before .loop in
-    (h .inv .0, fine-more (heldTop (s .args .top)) limit (s .args .edges .now) (h .k) (h .inv .1) (inside (c .before .before .before .before)) (sym (sound-told (c .before .before .before)) ∙ not-false _ (c .before .before .if3 .left)) (sym (c .before .level .ensures) ∙ c .if4 .left))
+    (h .inv .0, fine-more (heldTop (s .args .top)) limit (s .args .edges .now) (h .k) (h .inv .1) (inside (c .before .before .before .before)) (sym (sound-told (c .before .before .before)) ∙ not-false _ (c .before .before .if3 .left)) (sym (c .before .equal-ends .ensures) ∙ c .if4 .left))
 
 all : (c : tie.After-loop Inv-loop μ-loop) → length (c .before .before .before .before .before .args .edges .now) / 4 ≤ c .before .loop .k
 all c = omega arith
@@ -113,7 +113,7 @@ judge-spec =
     loop-holds
     sound-requires
     returns-3
-    level-requires
+    equal-ends-requires
     returns-4
     add-k
     loop-less

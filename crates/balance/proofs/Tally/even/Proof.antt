@@ -40,7 +40,7 @@ element-copy-out-if1-2 : tie.Need-element-copy-out-if1-2 Inv-loop μ-loop
 element-copy-out-if1-2 c = search needs
 
 returns : tie.Need-returns Inv-loop μ-loop
-returns c = one-odd (c .before .before .before .before .loop .c) (c .before .before .before .loop-test .taken) (c .if1 .taken)
+returns c = one-odd (c .before .before .before .before .loop .c) (search needs) (c .if1 .taken)
 
 add-c : tie.Need-add-c Inv-loop μ-loop
 add-c c = search needs

@@ -1,12 +1,12 @@
--- `edge::level` meets its contract. Assumes nothing.
+-- `edge::equal_ends` meets its contract. Assumes nothing.
 use mathlib.Core.Path.{sym, ap₂, _∙_}
 use lib.Dec.{eqb}
 use Rattle.meaning.specs.Edges.{flat}
 use Rattle.basics.specs.Fours.{part, edgeAt}
 use Rattle.basics.specs.Signed.{eq-key}
 use borrow.Author.Needs.{needs}
-use Rattle.edge.proofs.level.Statement.{statement}
-use Rattle.edge.proofs.level.Tie as tie
+use Rattle.edge.proofs.equal_ends.Statement.{statement}
+use Rattle.edge.proofs.equal_ends.Tie as tie
 
 key-at-requires : tie.Need-key-at-requires
 key-at-requires c κs = search needs
@@ -23,5 +23,5 @@ returns c =
     let b = c .key-at2 .ensures in
     ap₂ eqb (a .is) (b .is) ∙ sym (eq-key (part ns (s .args .k) 2) (part ns (s .args .k) 3) (a .word) (b .word))
 
-pub level-spec : {M : Type 1} → statement M
-level-spec = tie.close (tie.spec key-at-requires key-at-requires-2 returns)
+pub equal-ends-spec : {M : Type 1} → statement M
+equal-ends-spec = tie.close (tie.spec key-at-requires key-at-requires-2 returns)

@@ -1,3 +1,2 @@
 -- The edges of a good ring list keep the rules of edge lists.
-pub mod Rules
-pub mod Closed
+pub mod Accepted
