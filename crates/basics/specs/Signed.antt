@@ -1,18 +1,19 @@
 -- Signed numbers: equality, the way of a number through its bits and back, and the natural number that stands for it. Assumes nothing.
 --
 --   eqZ-refl, eqZ-yes, eqZ-no, eqZ-true, eqZ-false   what `eqZ` says
---   not-leZ, lt-le-trans, le-trans-leZ, lt-not-le, le-not-lt, not-lt-le, lt-le, pred-lt, lt-pred   tests of order
+--   not-leZ, lt-le-trans, le-trans-leZ, lt-not-le, le-not-lt, lt-le, pred-lt, lt-pred   tests of order
 --   read32, read64       a number that was written as bits and read again
 --   eq-bits              the machine's test of equality, which goes by the bits
 --   told-yes, told-no    what a call of a test says, where `if !test(x)` was not taken, or was
 --   within, outside      the two halves of a range test against `inRange`
 --   keyOf, unkeyOf       z + 2^31 and back: orders and equations of 32-bit numbers are those of their keys (le-key, lt-key, eq-key, key-inj)
---   sub-pos, sub-neg     a difference of naturals, by its sign; minus-sub: the two ways to write it
+--   sub-pos, sub-neg, sub-same   a difference of naturals, by its sign; equal differences; minus-sub: the two ways to write it
 use mathlib.Core.Path.{_≡_, refl, sym, ap, _∙_, subst}
 use mathlib.Core.Bool.{Bool, true, false, not, true≢false, false≢true}
 use Prim.Native.Nat.{ℕ, zero, suc, _+_, _-_, _<_, _^_}
 use native.Mathlib.Omega.{arith}
 use native.Mathlib.Nat.{add-zero}
+use native.Mathlib.Decide.{decLt}
 use lib.IntN.{ℤ, pos, negsuc, natAbs, subℕ, predℤ, _+ℤ_, _-ℤ_}
 use lib.Signed.{mag, leZ, ltZ}
 use lib.Dec.{leb, ltb, eqb, leb·suc-suc}
@@ -85,13 +86,6 @@ lt-not-le a b p = go (leZ b a) refl
 pub le-not-lt : (a b : ℤ) → leZ a b ≡ true → ltZ b a ≡ false
 le-not-lt a b p = not-leZ b a ∙ ap not p
 
-pub not-lt-le : (a b : ℤ) → ltZ a b ≡ false → leZ b a ≡ true
-not-lt-le a b p = go (leZ b a) refl
-  where
-    go : (t : Bool) → leZ b a ≡ t → leZ b a ≡ true
-    go true e = e
-    go false e = absurd (true≢false (sym (not-leZ a b ∙ ap not e) ∙ p))
-
 pub lt-le : (a b : ℤ) → ltZ a b ≡ true → leZ a b ≡ true
 lt-le (pos a) (pos b) p = le-leb a b (omega (arith, ltb-true a b p))
 lt-le (pos a) (negsuc b) p = p
@@ -157,6 +151,13 @@ sub-pos a b n e = rw (le-ltb a b (omega arith)) (ap pos (omega arith))
 
 pub sub-neg : (a b n : ℕ) → b ≡ a + suc n → subℕ a b ≡ negsuc n
 sub-neg a b n e = rw (lt-ltb a b (omega arith)) (ap negsuc (omega arith))
+
+pub sub-same : (a b c d : ℕ) → a + d ≡ c + b → subℕ a b ≡ subℕ c d
+sub-same a b c d e = go (decLt a b)
+  where
+    go : Dec (a < b) → subℕ a b ≡ subℕ c d
+    go (yes h) = sub-neg a b (b - suc a) (omega arith) ∙ sym (sub-neg c d (b - suc a) (omega arith))
+    go (no h) = sub-pos a b (a - b) (omega arith) ∙ sym (sub-pos c d (a - b) (omega arith))
 
 -- a difference of naturals is that of the library
 pub minus-sub : (w e : ℕ) → pos w -ℤ pos e ≡ subℕ w e

@@ -3,24 +3,22 @@
 --   lift L z            z + L: the steps from -L to z
 --   step-lt, step-le, step-eq     tests of steps
 --   step-pred           one step less is the number before
---   step-inj            different steps are different numbers
 --   step-range          a step within the range is a coordinate
 --   lift-step, step-lift, lift-le   the way back
---   lift-lt, lift-leb, lift-eq      tests of coordinates are those of their steps
 --   beyond              a number that is no coordinate lies below or above the range
 use mathlib.Core.Path.{_≡_, refl, sym, ap, ap₂, _∙_}
-use mathlib.Core.Bool.{Bool, true, false, false≢true}
+use mathlib.Core.Bool.{true, false}
 use mathlib.Core.Logic.{_⊎_, inl, inr}
 use Prim.Native.Nat.{ℕ, zero, suc, _+_, _-_, _*_, _≤_, _<_}
 use native.Mathlib.Omega.{arith}
-use native.Mathlib.Decide.{decLt, decLe}
+use native.Mathlib.Decide.{decLt}
 use lib.Dec.{leb, ltb, eqb}
-use lib.IntN.{ℤ, pos, negsuc, natAbs, subℕ, predℤ, negℤ, _-ℤ_}
+use lib.IntN.{ℤ, pos, negsuc, predℤ, negℤ}
 use lib.Signed.{ltZ, leZ}
 use borrow.Author.Tests.{le-leb, lt-leb, lt-ltb, le-ltb, leb-true, leb-false, ne-eqb}
 use Rattle.meaning.specs.Numbers.{eqZ, inRange, step}
 use Rattle.basics.specs.Tests.{leb-same, eqb-same}
-use Rattle.basics.specs.Signed.{minus-sub, sub-pos, sub-neg, eqZ-true, eqZ-refl}
+use Rattle.basics.specs.Signed.{minus-sub, sub-pos, sub-neg}
 
 unfoldable pub lift : ℕ → ℤ → ℕ
 lift L (pos n) = n + L
@@ -101,9 +99,6 @@ lift-step L n = go (side L n)
     go (low p q) = ap (lift L) q ∙ omega arith
     go (high p q) = ap (lift L) q ∙ omega arith
 
-pub step-inj : (L a b : ℕ) → step L a ≡ step L b → a ≡ b
-step-inj L a b e = sym (lift-step L a) ∙ ap (lift L) e ∙ lift-step L b
-
 pub step-lift : (L : ℕ) (z : ℤ) → inRange L z ≡ true → step L (lift L z) ≡ z
 unfolding step lift
 step-lift L (pos n) h = minus-sub (n + L) L ∙ sub-pos (n + L) L n (omega arith)
@@ -113,15 +108,6 @@ pub lift-le : (L : ℕ) (z : ℤ) → inRange L z ≡ true → lift L z ≤ 2 * 
 unfolding lift
 lift-le L (pos n) h = omega (arith, leb-true n L h)
 lift-le L (negsuc n) h = omega arith
-
-pub lift-lt : (L : ℕ) (a b : ℤ) → inRange L a ≡ true → inRange L b ≡ true → ltZ a b ≡ ltb (lift L a) (lift L b)
-lift-lt L a b ha hb = ap₂ ltZ (sym (step-lift L a ha)) (sym (step-lift L b hb)) ∙ step-lt L (lift L a) (lift L b)
-
-pub lift-leb : (L : ℕ) (a b : ℤ) → inRange L a ≡ true → inRange L b ≡ true → leZ a b ≡ leb (lift L a) (lift L b)
-lift-leb L a b ha hb = ap₂ leZ (sym (step-lift L a ha)) (sym (step-lift L b hb)) ∙ step-le L (lift L a) (lift L b)
-
-pub lift-eq : (L : ℕ) (a b : ℤ) → inRange L a ≡ true → inRange L b ≡ true → eqZ a b ≡ eqb (lift L a) (lift L b)
-lift-eq L a b ha hb = ap₂ eqZ (sym (step-lift L a ha)) (sym (step-lift L b hb)) ∙ step-eq L (lift L a) (lift L b)
 
 -- ---- outside the range
 

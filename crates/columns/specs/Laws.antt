@@ -16,6 +16,7 @@ use native.Mathlib.Omega.{arith}
 use lib.IntN.{ℤ}
 use lib.ListN.{length, getD, set, take, drop, length-append, length-map, List·getD-append}
 use lib.Seq.{take-suc, drop-cons, set-at, append-snoc, length-take-le, take-all}
+use Rattle.basics.specs.Lists.{map-append}
 use Rattle.meaning.specs.Numbers.{bit}
 use Rattle.meaning.specs.Edges.{Edge, edge}
 use Rattle.columns.specs.Kept.{bitOf, keeps, keepIf, kept, lifted, layerOf, yOf, fromOf, toOf, over, storeIf, Taken, Columns, edgesFrom}
@@ -118,10 +119,6 @@ taken-one true e n ls ys fs ts l y f t h p q u v = record { place = refl; layers
 taken-one false e n ls ys fs ts l y f t h p q u v = absurd (false≢true h)
 
 -- ---- the loop of `gather`
-
-map-append : {A B : Type 0} (f : A → B) (xs ys : List A) → map f (xs ++ ys) ≡ map f xs ++ map f ys
-map-append f [] ys = refl
-map-append f (x ∷ xs) ys = ap (λ l. f x ∷ l) (map-append f xs ys)
 
 -- the kept ones among the first k edges
 abbrev pub firstKept : ℕ → ℕ → List (Edge ℤ) → ℕ → List (Edge ℕ)

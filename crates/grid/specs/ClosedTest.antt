@@ -5,7 +5,7 @@ use mathlib.Core.List.{List, [], _∷_}
 use Prim.Native.Nat.{ℕ, zero, suc, _-_, _≤_, _<_}
 use native.Mathlib.Omega.{arith}
 use lib.Dec.{leb, eqb}
-use borrow.Author.Tests.{eq-eqb, ne-eqb, eqb-true, leb-true}
+use borrow.Author.Tests.{ne-eqb, eqb-true, leb-true}
 use Rattle.meaning.specs.Edges.{Edge, edge, number}
 use Rattle.basics.specs.Tests.{and-left, and-right}
 use Rattle.basics.specs.Lists.{All, all-map, number-same, number-none}
@@ -84,8 +84,3 @@ closed-from cs bs es hc hb t c i = byLayer (has c cs) refl
 pub closed-by : (es : List (Edge ℕ)) → closedTest es ≡ true → ClosedN es
 unfolding closedTest
 closed-by es t = closed-from (layersOf es) (xsOf es) es (λ c h. h) (λ y. refl) t
-
--- and the test says no only of a list that is not closed
-pub closed-only : (cs bs : List ℕ) (es : List (Edge ℕ)) → ClosedN es → closedOver cs bs es ≡ true
-unfolding closedOver ClosedN
-closed-only cs bs es h = all-every _ bs (λ i. all-every _ cs (λ c. eq-eqb _ _ (h c i)))

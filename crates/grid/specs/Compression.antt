@@ -8,10 +8,9 @@ use native.Mathlib.Decide.{decLt, decLe}
 use lib.IntN.{pos, _-ℤ_}
 use lib.Dec.{leb, eqb}
 use borrow.Author.Tests.{le-leb, lt-leb}
-use Rattle.meaning.specs.Numbers.{bit}
 use Rattle.meaning.specs.Cells.{Dir, off, turn}
 use Rattle.meaning.specs.Records.{line, Record}
-use Rattle.meaning.specs.Edges.{Edge, edge, number, covers}
+use Rattle.meaning.specs.Edges.{Edge, edge, covers}
 use Rattle.basics.specs.Tests.{not-leb, and-on, spans, spans-below, spans-above, and-off}
 use Rattle.basics.specs.Lists.{All, all-map, number-same, number-none}
 use Rattle.grid.specs.Covering.{covers-none}

@@ -6,16 +6,15 @@
 --   covers-same    the rule sees only the difference
 use mathlib.Core.Path.{_≡_, refl, sym, ap, _∙_}
 use mathlib.Core.Bool.{Bool, true, false}
-use Prim.Native.Nat.{ℕ, zero, suc, _+_, _-_, _<_}
+use Prim.Native.Nat.{ℕ, suc, _+_, _-_, _<_}
 use native.Mathlib.Omega.{arith}
 use native.Mathlib.Decide.{decLt}
-use native.Mathlib.Nat.{add-zero}
 use lib.Dec.{ltb}
 use lib.IntN.{pos, subℕ, _-ℤ_}
 use borrow.Author.Tests.{lt-ltb, le-ltb, le-leb}
 use Rattle.meaning.specs.Numbers.{bit}
 use Rattle.meaning.specs.Edges.{covers}
-use Rattle.basics.specs.Signed.{minus-sub, sub-pos, sub-neg}
+use Rattle.basics.specs.Signed.{minus-sub, sub-pos, sub-neg, sub-same}
 
 pub covers-ltb : (w e : ℕ) → covers (pos w -ℤ pos e) ≡ ltb e w
 unfolding covers
@@ -37,8 +36,4 @@ covers-one w e true q = covers-ltb w e ∙ lt-ltb e w (omega arith)
 covers-one w e false q = covers-ltb w e ∙ le-ltb e w (omega arith)
 
 pub covers-same : (w e v d : ℕ) → w + d ≡ v + e → covers (pos w -ℤ pos e) ≡ covers (pos v -ℤ pos d)
-covers-same w e v d q = ap covers (minus-sub w e ∙ go (decLt w e) ∙ sym (minus-sub v d))
-  where
-    go : Dec (w < e) → subℕ w e ≡ subℕ v d
-    go (yes u) = sub-neg w e (e - suc w) (omega arith) ∙ sym (sub-neg v d (e - suc w) (omega arith))
-    go (no u) = sub-pos w e (w - e) (omega arith) ∙ sym (sub-pos v d (w - e) (omega arith))
+covers-same w e v d q = ap covers (minus-sub w e ∙ sub-same w e v d q ∙ sym (minus-sub v d))

@@ -136,9 +136,6 @@ unfolding line dirAt
 line-after f a zero k p = refl
 line-after f a (suc n) k p = at-out a (suc a) (f a) (line f (suc a) n) k (omega arith) (omega arith) ∙ line-after f (suc a) n k (omega arith)
 
-pub line-before : (f : ℕ → Dir) (a n k : ℕ) → k < a → dirAt (line f a n) k ≡ off
-line-before f a n k p = at-below a off (line f a n) k (line-good f a n) p
-
 -- ---- only one good list means f
 
 at-first : (l h : ℕ) (e : Dir) (rs : List Run) (k : ℕ) → l ≤ k → k < h → dirAt (run l h e ∷ rs) k ≡ e
@@ -205,14 +202,6 @@ unique a d (run l h e ∷ rs) (run l′ h′ e′ ∷ ss) g g′ m =
     let m′ : (k : ℕ) → dirAt (run l h e ∷ rs) k ≡ dirAt (run l h e ∷ ss) k = rw (← (f .0), ← (f .1), ← (f .2)) at m in
     let r : rs ≡ ss = unique h e rs ss (g .4) g″ (rest-same l h e rs ss (g .4) g″ m′) in
     cc (f .0, f .1, f .2, r)
-
--- A line is the only good list that means f in the range and nothing outside
-pub line-unique : (f : ℕ → Dir) (n : ℕ) (rs : List Run) → Good zero off rs → ((k : ℕ) → k < n → dirAt rs k ≡ f k) → ((k : ℕ) → n ≤ k → dirAt rs k ≡ off) → rs ≡ line f zero n
-line-unique f n rs g i o = unique zero off rs (line f zero n) g (line-good f zero n) (λ k. go k (decLt k n))
-  where
-    go : (k : ℕ) → Dec (k < n) → dirAt rs k ≡ dirAt (line f zero n) k
-    go k (yes p) = i k p ∙ sym (line-means f zero n k (omega arith) (omega arith))
-    go k (no p) = o k (omega arith) ∙ sym (line-after f zero n k (omega arith))
 
 -- ---- no run of a line reaches past its last piece
 

@@ -53,10 +53,6 @@ rising-below a (p ∷ ps) k r l = rw (ne-eqb k p (omega arith)) (rising-below (s
 
 -- ---- sorting
 
-pub rising-weaken : (a b : ℕ) (ps : List ℕ) → a ≤ b → Rising b ps → Rising a ps
-rising-weaken a b [] l r = tt
-rising-weaken a b (p ∷ ps) l r = (omega arith, r .1)
-
 insert-rising : (a k : ℕ) (ps : List ℕ) → a ≤ k → Rising a ps → Rising a (insert k ps)
 unfolding insert insertIf
 insert-rising a k [] l r = (l, tt)

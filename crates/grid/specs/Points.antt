@@ -7,14 +7,13 @@
 use mathlib.Core.Path.{_≡_, refl, sym, ap, ap₂, _∙_, fun-ext}
 use mathlib.Core.Bool.{Bool, true, false, _&&_, true≢false}
 use mathlib.Core.List.{List, [], _∷_, _++_, map}
-use Prim.Native.Nat.{ℕ, zero, suc, _+_, _*_, _≤_, _<_}
+use Prim.Native.Nat.{ℕ, zero, suc, _+_, _*_, _<_}
 use native.Mathlib.Omega.{arith}
 use native.Mathlib.Nat.{zero-add, add-zero, add-suc, suc-add}
 use lib.Dec.{eqb}
 use lib.ListN.{length, length-append, length-map}
-use borrow.Author.Tests.{eq-eqb, ne-eqb}
 use Rattle.meaning.specs.Cells.{Dir, off, fwd, bwd, turn}
-use Rattle.meaning.specs.Records.{Run, run, sameDir, joinIf, join, put, line, Record, each}
+use Rattle.meaning.specs.Records.{Run, run, sameDir, joinIf, join, put, line, each}
 use Rattle.meaning.specs.Area.{total}
 use Rattle.grid.specs.Plane.{prior, levelN, uprightN, recordAt, kindN}
 use Rattle.grid.specs.LineLaws.{same-refl, put-put}

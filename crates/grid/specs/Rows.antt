@@ -11,11 +11,9 @@ use Rattle.meaning.specs.Numbers.{bit}
 use Rattle.meaning.specs.Cells.{Dir, turn}
 use Rattle.meaning.specs.Records.{Record}
 use Rattle.meaning.specs.Edges.{Edge, edge, number}
-use Rattle.basics.specs.Tests.{and-on}
-use Rattle.basics.specs.Lists.{all-map, number-same}
 use Rattle.grid.specs.Plane.{lineOver, upToN, insideN, prior, levelN, uprightN, recordAt, eachOf, kindAt, resultAt, ysOf, xsOf}
 use Rattle.grid.specs.Places.{has, has-tail, has-ne, has-other, Quiet, Rising, rising-below}
-use Rattle.grid.specs.Compression.{NoneUpTo, NoneAfter, rows-late, row-same, row-early, col-same, col-early}
+use Rattle.grid.specs.Compression.{NoneUpTo, row-same, row-early, col-same, col-early}
 
 -- ---- lines one after the other, each from the cells of its place and of the place before
 
@@ -111,7 +109,3 @@ number-first P (edge b v f t ∷ es) y q = ap₂ (λ (a : Bool) (n : ℕ). bit (
     go (yes a) b = absurd (has-ne v v (ysOf es) (q v a) refl)
     go (no a) (yes b) = rw (le-leb v y (omega arith), eq-eqb v y b)
     go (no a) (no b) = rw (lt-leb v y (omega arith), ne-eqb v y b)
-
--- after the last place the counts are those of the whole list: that they are equal says that it is closed
-pub number-last : (P : Edge ℕ → Bool) (es : List (Edge ℕ)) (j : ℕ) → NoneAfter j (ysOf es) → number (λ e. P e && upToN j e) es ≡ number P es
-number-last P es j q = number-same _ _ es (all-map _ _ es (λ e h. ap (_&&_ (P e)) h ∙ and-on (P e)) (rows-late j es q))

@@ -9,13 +9,13 @@ use Prim.Native.Nat.{ℕ, zero, suc, _+_, _-_, _*_, _≤_, _<_}
 use native.Mathlib.Omega.{arith}
 use native.Mathlib.Decide.{decLt}
 use native.Mathlib.Nat.{zero-add, mul-add}
-use lib.IntN.{ℤ, pos, negsuc, negℤ, subℕ, _+ℤ_, _-ℤ_, _*ℤ_, +ℤ-idl}
+use lib.IntN.{ℤ, pos, negℤ, subℕ, _+ℤ_, _-ℤ_, _*ℤ_, +ℤ-idl}
 use Rattle.meaning.specs.Numbers.{bit, step}
 use Rattle.meaning.specs.Cells.{Dir, off, fwd, bwd, level, upright, Within}
 use Rattle.meaning.specs.Records.{Run, run, line, Record, rec, recordOf, each, kindOf, result}
 use Rattle.meaning.specs.Area.{total, cells, signedTerm, signedSum}
 use Rattle.basics.specs.Lists.{All}
-use Rattle.basics.specs.Signed.{minus-sub, sub-pos, sub-neg}
+use Rattle.basics.specs.Signed.{minus-sub, sub-pos, sub-neg, sub-same}
 use Rattle.grid.specs.Plane.{recordAt, levelN, kindN}
 use Rattle.basics.specs.Sums.{sumOf}
 use Rattle.grid.specs.Sums.{total-same, total-swap}
@@ -61,13 +61,6 @@ sub-flip a b = go (diff a b)
     go (up zero p) = rw (sub-pos a b zero p) (sym (sub-pos b a zero (omega arith)))
     go (up (suc n) p) = rw (sub-pos a b (suc n) p) (sym (sub-neg b a n (omega arith)))
     go (down n p) = rw (sub-neg a b n p) (sym (sub-pos b a (suc n) p))
-
-sub-same : (a b c d : ℕ) → a + d ≡ c + b → subℕ a b ≡ subℕ c d
-sub-same a b c d e = go (diff a b)
-  where
-    go : Diff a b → subℕ a b ≡ subℕ c d
-    go (up n p) = sub-pos a b n p ∙ sym (sub-pos c d n (omega arith))
-    go (down n p) = sub-neg a b n p ∙ sym (sub-neg c d n (omega arith))
 
 neg-is : (k a b : ℕ) → b ≡ a + k → negℤ (pos k) ≡ subℕ a b
 neg-is zero a b e = sym (sub-pos a b zero (omega arith))

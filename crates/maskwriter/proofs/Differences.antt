@@ -7,11 +7,10 @@ use mathlib.Core.Path.{_≡_, refl, sym, ap, _∙_}
 use mathlib.Core.Bool.{Bool, true, false}
 use Prim.Native.Nat.{ℕ, zero, suc, _+_, _-_, _≤_}
 use native.Mathlib.Omega.{arith}
-use native.Mathlib.Decide.{decLe}
 use lib.Dec.{ltb}
 use lib.IntN.{ℤ, pos, negsuc, natAbs, subℕ, _-ℤ_}
 use borrow.Author.Tests.{ltb-true}
-use Rattle.basics.specs.Signed.{keyOf, sub-pos, sub-neg}
+use Rattle.basics.specs.Signed.{keyOf, sub-pos, sub-neg, sub-same}
 use Rattle.meaning.specs.Numbers.{limit}
 use Rattle.meaning.specs.Rings.{xs, ys}
 use Rattle.meaning.specs.MaskFile.{signed}
@@ -22,13 +21,6 @@ use Rattle.ringlaws.specs.Forms.{previous-size, range-xs, range-ys}
 use Rattle.rings.specs.StateOf.{stateOf, keyed}
 use Rattle.rings.proofs.Standing.{Natural, zero-in}
 use Rattle.maskwriter.specs.Stored.{difference, storedOf}
-
-sub-same : (a b c d : ℕ) → a + d ≡ c + b → subℕ a b ≡ subℕ c d
-sub-same a b c d e = go (decLe b a)
-  where
-    go : Dec (b ≤ a) → subℕ a b ≡ subℕ c d
-    go (yes h) = sub-pos a b (a - b) (omega arith) ∙ sym (sub-pos c d (a - b) (omega arith))
-    go (no h) = sub-neg a b (b - suc a) (omega arith) ∙ sym (sub-neg c d (b - suc a) (omega arith))
 
 sub-keys : (z p : ℤ) → natAbs z ≤ limit → natAbs p ≤ limit → z -ℤ p ≡ subℕ (keyOf z) (keyOf p)
 sub-keys (pos a) (pos zero) hz hp = sym (sub-pos (a + 2147483648) (0 + 2147483648) (a + 0) (omega arith))

@@ -11,6 +11,7 @@ use Prim.Native.Nat.{ℕ, zero, suc, _+_, _-_, _<_, _≤_}
 use native.Mathlib.Omega.{arith}
 use native.Mathlib.Decide.{decLt}
 use lib.ListN.{length, getD}
+use Rattle.basics.specs.Lists.{map-append}
 use Rattle.meaning.specs.Cells.{Dir, off, fwd, bwd}
 use Rattle.meaning.specs.Records.{run, sameDir, Record}
 use Rattle.grid.specs.Plane.{recordAt, lineOver}
@@ -111,10 +112,6 @@ one-record zero place a b true = refl
 one-record zero place a b false = refl
 one-record (suc k) place a b true = refl
 one-record (suc k) place a b false = refl
-
-map-append : {A B : Type 0} (f : A → B) (xs ys : List A) → map f (xs ++ ys) ≡ map f xs ++ map f ys
-map-append f [] ys = refl
-map-append f (x ∷ xs) ys = ap (λ l. f x ∷ l) (map-append f xs ys)
 
 -- ---- one line
 
