@@ -10,6 +10,7 @@ use lib.Dec.{eqb}
 use lib.ListN.{length, getD}
 use borrow.Author.Tests.{eq-eqb, ne-eqb}
 use Rattle.meaning.specs.Numbers.{bit}
+use Rattle.basics.specs.Tests.{bit-le}
 use Rattle.scanline.specs.declared.Scanline.{Scanline}
 use Rattle.scanline.specs.Handed.{freshLine, past, Bounded}
 use Rattle.scanline.specs.HandedLaws.{west-at, east-at, west-long, east-long, fresh-zero}
@@ -37,10 +38,6 @@ east-marked k l = and-swap (eqb (layerOf k) l) (eqb (wayOf k) 0) ∙ ap (λ (b :
     go : Dec (wayOf k ≡ 0) → eqb (wayOf k) 0 ≡ not (eqb (wayOf k) 1)
     go (yes e) = rw (eq-eqb (wayOf k) 0 e, ne-eqb (wayOf k) 1 (omega arith))
     go (no n) = rw (ne-eqb (wayOf k) 0 n, eq-eqb (wayOf k) 1 (omega (arith, way-two k)))
-
-bit-le : (b : Bool) → bit b ≤ 1
-bit-le true = omega arith
-bit-le false = omega arith
 
 -- ---- the loop
 

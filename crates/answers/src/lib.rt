@@ -3,6 +3,7 @@ ghost use mathlib.Core.Path.{_≡_};
 ghost use Rattle.meaning.specs.Answers.{accepted, answer};
 ghost use Rattle.answers.specs.Said.{said};
 
+#[repr(C)]
 pub struct Answer {
     pub number: u64,
     pub value: u64,

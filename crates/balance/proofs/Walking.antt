@@ -8,7 +8,7 @@
 use mathlib.Core.Path.{_≡_, refl, sym, ap, _∙_}
 use mathlib.Core.Logic.{_≢_, ⊎-elim}
 use mathlib.Core.Bool.{Bool, true, false}
-use mathlib.Core.List.{List, [], _∷_}
+use mathlib.Core.List.{List}
 use Prim.Native.Nat.{ℕ, _+_, _≤_, _<_}
 use native.Mathlib.Nat.{eq-or-lt-of-le}
 use native.Mathlib.Omega.{arith}
@@ -16,10 +16,10 @@ use lib.Dec.{leb, eqb}
 use lib.ListN.{length, getD, set, take, replicate, length-set, getD-replicate}
 use lib.Seq.{length-take-le}
 use borrow.Author.Tests.{le-leb, lt-leb, eq-eqb, ne-eqb}
-use Rattle.meaning.specs.Numbers.{bit}
+use Rattle.meaning.specs.Numbers.{bit, pick}
 use Rattle.basics.specs.Sums.{sumOf}
-use Rattle.sums.specs.Sums.{where-true}
-use Rattle.sums.specs.Laws.{after-set, below-or, sum-take, prefix-sum}
+use Rattle.basics.specs.Tests.{bit-le}
+use Rattle.sums.specs.Laws.{after-set, below-or, sum-take, prefix-sum, sum-le}
 use Rattle.words.specs.Words.{placeOf}
 use Rattle.axis.specs.Axes.{Places, Along}
 use Rattle.balance.specs.Balanced.{upTo, EvenAt, Balanced, always, first-at, Told, all-even, one-odd, Settled, one-place, even-there, odd-there}
@@ -32,18 +32,9 @@ settled-of n (one-odd c h d) = odd-there n c h d
 unfoldable pub passedOf : List ℕ → List ℕ → ℕ → ℕ → ℕ
 passedOf ws tags t i = sumOf (λ w. bit (eqb (getD tags (placeOf w) 0) t)) (take i ws)
 
-bit-le : (b : Bool) → bit b ≤ 1
-bit-le true = omega arith
-bit-le false = omega arith
-
-bits-le : (p : ℕ → Bool) (ws : List ℕ) → sumOf (λ w. bit (p w)) ws ≤ length ws
-unfolding sumOf
-bits-le p [] = omega arith
-bits-le p (w ∷ ws) = omega (arith, bits-le p ws, bit-le (p w))
-
 passed-le : (ws tags : List ℕ) (t i : ℕ) → i ≤ length ws → passedOf ws tags t i ≤ i
 unfolding passedOf
-passed-le ws tags t i h = omega (arith, bits-le (λ w. eqb (getD tags (placeOf w) 0) t) (take i ws), length-take-le i ws h)
+passed-le ws tags t i h = omega (arith, sum-le (λ w. bit (eqb (getD tags (placeOf w) 0) t)) (take i ws) (λ w. bit-le (eqb (getD tags (placeOf w) 0) t)), length-take-le i ws h)
 
 passed-more : (ws tags : List ℕ) (t i : ℕ) → i < length ws → passedOf ws tags t (i + 1) ≡ passedOf ws tags t i + bit (eqb (getD tags (placeOf (getD ws i 0)) 0) t)
 unfolding passedOf
@@ -64,7 +55,7 @@ module _ (ws xs tags : List ℕ) (P : Places (length xs) ws) (along : Along ws x
   cut t k i h low high =
       prefix-sum ws ws i (λ w. leb (getD xs (placeOf w) 0) k) (λ w. bit (eqb (getD tags (placeOf w) 0) t)) (λ f. refl) h
       (λ p l. le-leb (getD xs (placeOf (getD ws p 0)) 0) k (low p l)) (λ q l m. lt-leb (getD xs (placeOf (getD ws q 0)) 0) k (high q l m))
-      ∙ P .once (λ j. where-true (leb (getD xs j 0) k) (bit (eqb (getD tags j 0) t)))
+      ∙ P .once (λ j. pick (leb (getD xs j 0) k) (bit (eqb (getD tags j 0) t)) 0)
 
   pub start : Walking ws xs tags (replicate 16 0) 0 0
   unfolding passedOf sumOf

@@ -13,14 +13,14 @@ use mathlib.Core.List.{List}
 use Prim.Native.Nat.{ℕ, _+_, _<_}
 use lib.Dec.{leb, eqb}
 use lib.ListN.{length, getD, set, replicate}
-use Rattle.meaning.specs.Numbers.{bit}
-use Rattle.sums.specs.Sums.{sumTo, where-true}
+use Rattle.meaning.specs.Numbers.{bit, pick}
+use Rattle.sums.specs.Sums.{sumTo}
 use Rattle.balance.specs.declared.Tally.{Tally}
 use Rattle.balance.specs.declared.Balance.{Balance}
 use Rattle.balance.specs.declared.Balance.the-variants.{Even, Uneven}
 
 unfoldable pub upTo : List ℕ → List ℕ → ℕ → ℕ → ℕ
-upTo xs tags t k = sumTo (length xs) (λ j. where-true (leb (getD xs j 0) k) (bit (eqb (getD tags j 0) t)))
+upTo xs tags t k = sumTo (length xs) (λ j. pick (leb (getD xs j 0) k) (bit (eqb (getD tags j 0) t)) 0)
 
 abbrev pub EvenAt : List ℕ → List ℕ → ℕ → Type 0
 EvenAt xs tags k = (c : ℕ) → c < 8 → upTo xs tags (c + c) k ≡ upTo xs tags (c + c + 1) k

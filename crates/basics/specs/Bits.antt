@@ -7,6 +7,9 @@
 --   ofBits-bitAt         a number below 2^n is the number of its digits
 --   ofBits-same          digits that agree give one number
 --   ofBits-step          one digit changes
+--   ofBits-has           it is at least the power of a digit that is 1
+--   digit-ofBits         its digits as numbers are those of f
+--   pick-bit             a number that counts where a test holds, as a product
 use mathlib.Core.Path.{_≡_, refl, sym, ap, ap₂, _∙_}
 use mathlib.Core.Bool.{Bool, true, false}
 use Prim.Native.Nat.{ℕ, zero, suc, _+_, _*_, _-_, _/_, _%_, _^_, _≤_, _<_}
@@ -30,7 +33,7 @@ pick-le : (b : Bool) (n : ℕ) → pick b n 0 ≤ n
 pick-le true n = omega arith
 pick-le false n = omega arith
 
-pick-bit : (b : Bool) (n : ℕ) → pick b n 0 ≡ bit b * n
+pub pick-bit : (b : Bool) (n : ℕ) → pick b n 0 ≡ bit b * n
 pick-bit true n = omega arith
 pick-bit false n = omega arith
 
@@ -60,6 +63,15 @@ ofBits-step (suc n) l f g h e = go (ℕ-discrete n l) (λ u. ofBits-step n l f g
     go (no q) ih =
         let s : pick (g n) (2 ^ n) 0 ≡ pick (f n) (2 ^ n) 0 = ap (λ (b : Bool). pick b (2 ^ n) 0) (e n (omega arith) q) in
         omega (arith, ih (omega arith))
+
+pub ofBits-has : (n l : ℕ) (f : ℕ → Bool) → l < n → pick (f l) (2 ^ l) 0 ≤ ofBits n f
+unfolding ofBits
+ofBits-has zero l f h = absurd (omega arith)
+ofBits-has (suc n) l f h = go (ℕ-discrete n l) (λ u. ofBits-has n l f u)
+  where
+    go : Dec (n ≡ l) → (l < n → pick (f l) (2 ^ l) 0 ≤ ofBits n f) → pick (f l) (2 ^ l) 0 ≤ ofBits n f + pick (f n) (2 ^ n) 0
+    go (yes q) ih = rw q (omega arith)
+    go (no q) ih = omega (arith, ih (omega arith))
 
 -- ---- the digits of the number of digits
 
@@ -96,14 +108,18 @@ bitAt-ofBits (suc n) f l h = go (ℕ-discrete n l) (λ u. bitAt-ofBits n f l u)
     go (yes q) ih = rw (pick-bit, ← q) (digit-top n (ofBits n f) (f n) (ofBits-below n f))
     go (no q) ih = rw pick-bit (digit-below n l (bit (f n)) (ofBits n f) (omega arith) (ofBits-below n f) ∙ ih (omega arith))
 
--- ---- the number of the digits of a number
-
 bit-of : (x : ℕ) → x < 2 → bit (eqb x 1) ≡ x
 bit-of x h = go (ℕ-discrete x 1)
   where
     go : Dec (x ≡ 1) → bit (eqb x 1) ≡ x
     go (yes e) = simp (eq-eqb x 1 e) (sym e)
     go (no e) = simp (ne-eqb x 1 e) (omega arith)
+
+pub digit-ofBits : (n : ℕ) (f : ℕ → Bool) (l : ℕ) → l < n → ofBits n f / 2 ^ l % 2 ≡ bit (f l)
+unfolding bitAt
+digit-ofBits n f l h = sym (bit-of (ofBits n f / 2 ^ l % 2) (mod-lt (ofBits n f / 2 ^ l) (omega arith))) ∙ ap bit (bitAt-ofBits n f l h)
+
+-- ---- the number of the digits of a number
 
 rest-of : (n m : ℕ) → ofBits n (bitAt m) ≡ m % 2 ^ n
 unfolding ofBits bitAt

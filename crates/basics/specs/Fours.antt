@@ -5,6 +5,7 @@
 --   none            any edge, for what stands past the end of a list
 --   edges-length    there is an edge for each four numbers
 --   edges-at        and edge k is that of record k
+--   layerOf, yOf, fromOf, toOf   the numbers of an edge
 use mathlib.Core.Path.{_≡_, refl, sym, ap, _∙_}
 use mathlib.Core.List.{List, [], _∷_}
 use Prim.Native.Nat.{ℕ, zero, suc, _+_, _*_, _/_, _<_}
@@ -46,3 +47,17 @@ edges-at (l ∷ y ∷ f ∷ []) k d h = absurd (omega arith)
 edges-at (l ∷ y ∷ f ∷ t ∷ ns) zero d h = refl
 edges-at (l ∷ y ∷ f ∷ t ∷ ns) (suc k) d h =
     edges-at ns k d (omega arith) ∙ sym (rw (part-later l y f t ns k 0, part-later l y f t ns k 1, part-later l y f t ns k 2, part-later l y f t ns k 3))
+
+-- ---- columns
+
+abbrev pub layerOf : {A : Type 0} → Edge A → A
+layerOf (edge l y f t) = l
+
+abbrev pub yOf : {A : Type 0} → Edge A → A
+yOf (edge l y f t) = y
+
+abbrev pub fromOf : {A : Type 0} → Edge A → A
+fromOf (edge l y f t) = f
+
+abbrev pub toOf : {A : Type 0} → Edge A → A
+toOf (edge l y f t) = t

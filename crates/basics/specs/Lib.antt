@@ -1,4 +1,4 @@
--- Small laws that stand once: tests on numbers as truth values, lists, signed numbers, tables of answers, and binary digits.
+-- Small laws that stand once: tests on numbers as truth values, lists, signed numbers, tables of answers, binary digits, and edges.
 pub mod Tests
 pub mod Lists
 pub mod Sums
@@ -8,3 +8,4 @@ pub mod Tables
 pub mod Stores
 pub mod Bits
 pub mod Fours
+pub mod Sound

@@ -1,22 +1,21 @@
 -- Lists: what holds of every element, and how many pass a test. Assumes nothing.
 --
---   All P xs             P holds of every element; all-map, all-append, all-to-map
+--   all-map, all-append, all-back, all-to-map   what holds of every element, `All P xs`: by a law, of lists put together and of their end, of images
+--   all-at, all-of       it holds of each by its place, and the way back
 --   number-same          tests that agree on every element count the same
 --   number-none          a test that no element passes counts none
 --   number-append, number-to-map   of lists put together, and of images
 --   map-append           the image of lists put together
-use mathlib.Core.Path.{_≡_, refl, sym, ap, ap₂, _∙_}
+use mathlib.Core.Path.{_≡_, refl, sym, ap, ap₂}
 use mathlib.Core.Bool.{Bool, false}
 use mathlib.Core.List.{List, [], _∷_, _++_, map}
-use Prim.Native.Nat.{ℕ, _+_}
+use Prim.Native.Nat.{ℕ, zero, suc, _+_, _<_}
 use native.Mathlib.Omega.{arith}
-use native.Mathlib.Nat.{zero-add}
+use native.Mathlib.Nat.{zero-add, not-suc-le-zero, le-of-suc-le-suc}
+use lib.ListN.{length, getD}
 use Rattle.meaning.specs.Numbers.{bit}
 use Rattle.meaning.specs.Edges.{number}
-
-abbrev pub All : {A : Type 0} → (A → Type 0) → List A → Type 0
-All P [] = Unit {0}
-All P (x ∷ xs) = P x × All P xs
+pub use Rattle.meaning.specs.Rings.{All}
 
 pub all-map : {A : Type 0} (P Q : A → Type 0) (xs : List A) → ((x : A) → P x → Q x) → All P xs → All Q xs
 all-map P Q [] f h = tt
@@ -26,9 +25,22 @@ pub all-append : {A : Type 0} (P : A → Type 0) (xs ys : List A) → All P xs �
 all-append P [] ys h k = k
 all-append P (x ∷ xs) ys h k = (h .0, all-append P xs ys (h .1) k)
 
+pub all-back : {A : Type 0} (P : A → Type 0) (xs ys : List A) → All P (xs ++ ys) → All P ys
+all-back P [] ys h = h
+all-back P (x ∷ xs) ys h = all-back P xs ys (h .1)
+
 pub all-to-map : {A B : Type 0} (P : B → Type 0) (f : A → B) (xs : List A) → All (λ x. P (f x)) xs → All P (map f xs)
 all-to-map P f [] h = tt
 all-to-map P f (x ∷ xs) h = (h .0, all-to-map P f xs (h .1))
+
+pub all-at : {A : Type 0} (P : A → Type 0) (xs : List A) (k : ℕ) (d : A) → All P xs → k < length xs → P (getD xs k d)
+all-at P [] k d h l = absurd (not-suc-le-zero l)
+all-at P (x ∷ xs) zero d h l = h .0
+all-at P (x ∷ xs) (suc k) d h l = all-at P xs k d (h .1) (le-of-suc-le-suc l)
+
+pub all-of : {A : Type 0} (P : A → Type 0) (xs : List A) (d : A) → ((k : ℕ) → k < length xs → P (getD xs k d)) → All P xs
+all-of P [] d h = tt
+all-of P (x ∷ xs) d h = (h 0 (omega arith), all-of P xs d (λ k l. h (suc k) (omega arith)))
 
 pub number-same : {A : Type 0} (p q : A → Bool) (xs : List A) → All (λ x. p x ≡ q x) xs → number p xs ≡ number q xs
 unfolding number

@@ -1,6 +1,6 @@
 -- Signed numbers: equality, the way of a number through its bits and back, and the natural number that stands for it. Assumes nothing.
 --
---   eqZ-refl, eqZ-yes, eqZ-no, eqZ-true, eqZ-false   what `eqZ` says
+--   eqZ-refl, eqZ-yes, eqZ-no, eqZ-true, eqZ-false   what `eqZ` says; eqZ-natural: of a natural number
 --   not-leZ, lt-le-trans, le-trans-leZ, lt-not-le, le-not-lt, lt-le, pred-lt, lt-pred   tests of order
 --   read32, read64       a number that was written as bits and read again
 --   eq-bits              the machine's test of equality, which goes by the bits
@@ -50,6 +50,11 @@ eqZ-true (negsuc a) (negsuc b) e = ap negsuc (eqb-true a b e)
 
 pub eqZ-false : (a b : ℤ) → eqZ a b ≡ false → a ≡ b → ⊥
 eqZ-false a b e h = true≢false (sym (eqZ-yes a b h) ∙ e)
+
+pub eqZ-natural : (z : ℤ) (n : ℕ) → leZ (pos 0) z ≡ true → eqZ z (pos n) ≡ eqb (natAbs z) n
+unfolding eqZ
+eqZ-natural (pos m) n h = refl
+eqZ-natural (negsuc m) n h = absurd (false≢true h)
 
 -- ---- order
 

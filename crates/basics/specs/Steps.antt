@@ -5,7 +5,9 @@
 --   step-pred           one step less is the number before
 --   step-range          a step within the range is a coordinate
 --   lift-step, step-lift, lift-le   the way back
+--   le-lift, lt-lift    a coordinate against a step
 --   beyond              a number that is no coordinate lies below or above the range
+--   lowered L r         the record of coordinates that a record in steps stands for
 use mathlib.Core.Path.{_≡_, refl, sym, ap, ap₂, _∙_}
 use mathlib.Core.Bool.{true, false}
 use mathlib.Core.Logic.{_⊎_, inl, inr}
@@ -17,6 +19,7 @@ use lib.IntN.{ℤ, pos, negsuc, predℤ, negℤ}
 use lib.Signed.{ltZ, leZ}
 use borrow.Author.Tests.{le-leb, lt-leb, lt-ltb, le-ltb, leb-true, leb-false, ne-eqb}
 use Rattle.meaning.specs.Numbers.{eqZ, inRange, step}
+use Rattle.meaning.specs.Records.{Record, rec}
 use Rattle.basics.specs.Tests.{leb-same, eqb-same}
 use Rattle.basics.specs.Signed.{minus-sub, sub-pos, sub-neg}
 
@@ -109,9 +112,20 @@ unfolding lift
 lift-le L (pos n) h = omega (arith, leb-true n L h)
 lift-le L (negsuc n) h = omega arith
 
+pub le-lift : (L : ℕ) (z : ℤ) (n : ℕ) → inRange L z ≡ true → leZ z (step L n) ≡ leb (lift L z) n
+le-lift L z n h = ap (λ (a : ℤ). leZ a (step L n)) (sym (step-lift L z h)) ∙ step-le L (lift L z) n
+
+pub lt-lift : (L n : ℕ) (z : ℤ) → inRange L z ≡ true → ltZ (step L n) z ≡ ltb n (lift L z)
+lt-lift L n z h = ap (ltZ (step L n)) (sym (step-lift L z h)) ∙ step-lt L n (lift L z)
+
 -- ---- outside the range
 
 pub beyond : (L : ℕ) (z : ℤ) → inRange L z ≡ false → (ltZ z (negℤ (pos L)) ≡ true) ⊎ (ltZ (pos L) z ≡ true)
 beyond L (pos n) h = inr (lt-ltb L n (leb-false n L h))
 beyond zero (negsuc n) h = inl refl
 beyond (suc L) (negsuc n) h = let u : suc L < suc n = leb-false (suc n) (suc L) h in inl (lt-ltb L n (omega arith))
+
+-- ---- records
+
+abbrev pub lowered : ℕ → Record ℕ → Record ℤ
+lowered L (rec kind p f t) = rec kind (step L p) (step L f) (step L t)

@@ -2,6 +2,7 @@
 --
 --   and-left, and-right   what `p && q` says of each half
 --   and-off, and-on, or-true   `&&` and `||` with a half that is known
+--   bit-le                a truth value as a number is at most 1
 --   not-leb               below is not at-or-above
 --   leb-same, eqb-same    two tests that hold together are equal
 --   spans l h k           k is in the stretch from l up to h, h not included
@@ -34,6 +35,10 @@ and-on false = refl
 pub or-true : (p : Bool) → (p || true) ≡ true
 or-true true = refl
 or-true false = refl
+
+pub bit-le : (b : Bool) → bit b ≤ 1
+bit-le true = omega arith
+bit-le false = omega arith
 
 pub not-leb : (k h : ℕ) → ltb k h ≡ not (leb h k)
 not-leb k h = go (decLt k h)

@@ -5,7 +5,7 @@ ghost use Prim.Native.Nat.{_/_};
 ghost use lib.ListN.{length};
 ghost use Rattle.meaning.specs.Numbers.{limit};
 ghost use Rattle.meaning.specs.Edges.{edgesOf};
-ghost use Rattle.columns.specs.Kept.{Sound};
+ghost use Rattle.basics.specs.Sound.{SoundList};
 ghost use Rattle.closed.specs.Closing.{Weighed};
 ghost use Rattle.closed.specs.Room.{Lent};
 
@@ -22,7 +22,7 @@ fn weigh_in(
     room: &mut [u64],
     ds: &mut [u16],
 ) -> Balance
-    requires { ⌜ Sound 7 limit (now edges) ⌝ }
+    requires { ⌜ SoundList 7 limit (now edges) ⌝ }
     requires { ⌜ Lent (length (now edges) / 4) (now ls) (now ys) (now fs) (now ts) (now xs) (now tags) (now ws) (now room) (now ds) ⌝ }
     ensures { λ r. ⌜ Weighed (edgesOf (now (edges .entry))) r ⌝ }
 {
@@ -33,7 +33,7 @@ fn weigh_in(
 
 // Whether a sound list is closed, or the least place where it is not.
 pub fn weigh(edges: &[i32]) -> Balance
-    requires { ⌜ Sound 7 limit (now edges) ⌝ }
+    requires { ⌜ SoundList 7 limit (now edges) ⌝ }
     ensures { λ r. ⌜ Weighed (edgesOf (now (edges .entry))) r ⌝ }
 {
     let n = edges.len() / 4;

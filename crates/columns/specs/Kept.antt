@@ -1,32 +1,23 @@
 -- The kept edges of a list, as columns of natural numbers.
 --
---   bitOf used c         bit c of the byte `used` is set: layer c is kept
---   keeps used e, kept used es   edge e is of a kept layer; those of es that are, in order
---   lifted L e           e with a natural number for its layer, and its coordinates as steps from -L
---   layerOf, yOf, fromOf, toOf   the numbers of an edge
---   Sound top L ns       none of the refusals 1 to 3 applies to the numbers ns
+--   keeps used e, kept used es   edge e is of a kept layer, one whose bit is set in the byte `used`; those of es that are, in order
 --   over new old         new written over the front of old
 --   storeIf b l n v      l with v at place n, if b holds
 --   Taken ..             one edge written to place n of four columns, or not; the place after it
 --   Columns es ..        the edges es written over the front of four columns; how many they are
---   edgesFrom ls ys fs ts i n   the n edges that the columns have from number i on
 use mathlib.Core.Path.{_≡_}
 use mathlib.Core.Bool.{Bool, true, false}
 use mathlib.Core.List.{List, [], _∷_, _++_, map}
-use Prim.Native.Nat.{ℕ, zero, suc, _+_, _/_, _%_, _^_, _≤_, _<_}
-use lib.Dec.{eqb}
+use Prim.Native.Nat.{ℕ, _+_}
 use lib.IntN.{ℤ, natAbs}
-use lib.ListN.{length, getD, set, drop}
+use lib.ListN.{length, set, drop}
 use Rattle.meaning.specs.Numbers.{bit}
-use Rattle.meaning.specs.Edges.{Edge, edge, soundEdge}
-use Rattle.basics.specs.Steps.{lift}
-use Rattle.basics.specs.Fours.{edgeAt}
-
-unfoldable pub bitOf : ℕ → ℕ → Bool
-bitOf used c = eqb (used / 2 ^ c % 2) 1
+use Rattle.meaning.specs.Edges.{Edge, edge}
+use Rattle.basics.specs.Bits.{bitAt}
+use Rattle.basics.specs.Fours.{layerOf, yOf, fromOf, toOf}
 
 unfoldable pub keeps : ℕ → Edge ℤ → Bool
-keeps used (edge l y f t) = bitOf used (natAbs l)
+keeps used (edge l y f t) = bitAt used (natAbs l)
 
 abbrev pub keepIf : Bool → Edge ℤ → List (Edge ℤ) → List (Edge ℤ)
 keepIf true e es = e ∷ es
@@ -35,26 +26,6 @@ keepIf false e es = es
 unfoldable pub kept : ℕ → List (Edge ℤ) → List (Edge ℤ)
 kept used [] = []
 kept used (e ∷ es) = keepIf (keeps used e) e (kept used es)
-
-unfoldable pub lifted : ℕ → Edge ℤ → Edge ℕ
-lifted L (edge l y f t) = edge (natAbs l) (lift L y) (lift L f) (lift L t)
-
-abbrev pub layerOf : Edge ℕ → ℕ
-layerOf (edge l y f t) = l
-
-abbrev pub yOf : Edge ℕ → ℕ
-yOf (edge l y f t) = y
-
-abbrev pub fromOf : Edge ℕ → ℕ
-fromOf (edge l y f t) = f
-
-abbrev pub toOf : Edge ℕ → ℕ
-toOf (edge l y f t) = t
-
-pub record Sound (top L : ℕ) (ns : List ℤ) : Type 0 where
-  pub fours : length ns % 4 ≡ 0
-  pub few : length ns / 4 ≤ 4096
-  pub each : (k : ℕ) → k < length ns / 4 → soundEdge top L (edgeAt ns k) ≡ true
 
 -- ---- columns
 
@@ -78,7 +49,3 @@ pub record Columns (es : List (Edge ℕ)) (ls ys fs ts ls′ ys′ fs′ ts′ :
   pub heights : ys′ ≡ over (map yOf es) ys
   pub froms : fs′ ≡ over (map fromOf es) fs
   pub tos : ts′ ≡ over (map toOf es) ts
-
-unfoldable pub edgesFrom : List ℕ → List ℕ → List ℕ → List ℕ → ℕ → ℕ → List (Edge ℕ)
-edgesFrom ls ys fs ts i zero = []
-edgesFrom ls ys fs ts i (suc n) = edge (getD ls i 0) (getD ys i 0) (getD fs i 0) (getD ts i 0) ∷ edgesFrom ls ys fs ts (suc i) n

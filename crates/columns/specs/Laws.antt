@@ -1,25 +1,28 @@
 -- Laws of kept edges and their columns. Assumes nothing.
 --
 --   kept-length          at most as many edges are kept as there are
---   kept-all             with all eight bits set, every edge of a layer up to 7 is
+--   all-bits             all eight bits of 255 are set
+--   kept-all             where every edge is of a kept layer, all are kept
 --   over-at              what a column written over an old one holds
---   columns-edges        the edges that the columns have are the ones written
 --   taken-none, taken-one   what `take_in` makes of an edge that is not kept, and of one that is
 --   gather-start, gather-more, gather-end, gather-low   the loop of `gather`: the columns of the edges so far
-use mathlib.Core.Path.{_≡_, refl, sym, ap, ap₂, _∙_, subst}
+use mathlib.Core.Path.{_≡_, refl, sym, ap, _∙_, subst}
 use mathlib.Core.Bool.{Bool, true, false, true≢false, false≢true}
 use mathlib.Core.List.{List, [], _∷_, _++_, map, append-nil}
 use Prim.Native.Nat.{ℕ, zero, suc, _+_, _≤_, _<_}
-use native.Mathlib.Nat.{not-suc-le-zero, le-of-suc-le-suc, zero-add}
+use native.Mathlib.Nat.{not-suc-le-zero, le-of-suc-le-suc}
 use native.Mathlib.Numerals.{add-one}
 use native.Mathlib.Omega.{arith}
 use lib.IntN.{ℤ}
 use lib.ListN.{length, getD, set, take, drop, length-append, length-map, List·getD-append}
 use lib.Seq.{take-suc, drop-cons, set-at, append-snoc, length-take-le, take-all}
-use Rattle.basics.specs.Lists.{map-append}
+use Rattle.basics.specs.Lists.{All, map-append}
+use Rattle.basics.specs.Bits.{bitAt}
+use Rattle.basics.specs.Fours.{layerOf, yOf, fromOf, toOf}
+use Rattle.basics.specs.Sound.{lifted}
 use Rattle.meaning.specs.Numbers.{bit}
-use Rattle.meaning.specs.Edges.{Edge, edge}
-use Rattle.columns.specs.Kept.{bitOf, keeps, keepIf, kept, lifted, layerOf, yOf, fromOf, toOf, over, storeIf, Taken, Columns, edgesFrom}
+use Rattle.meaning.specs.Edges.{Edge}
+use Rattle.columns.specs.Kept.{keeps, keepIf, kept, over, storeIf, Taken, Columns}
 
 -- ---- which edges are kept
 
@@ -41,8 +44,8 @@ unfolding kept
 kept-append used [] fs = refl
 kept-append used (e ∷ es) fs = ap (keepIf (keeps used e) e) (kept-append used es fs) ∙ if-append (keeps used e) e (kept used es) (kept used fs)
 
-pub all-bits : (c : ℕ) → c < 8 → bitOf 255 c ≡ true
-unfolding bitOf
+pub all-bits : (c : ℕ) → c < 8 → bitAt 255 c ≡ true
+unfolding bitAt
 all-bits zero h = refl
 all-bits (suc zero) h = refl
 all-bits (suc (suc zero)) h = refl
@@ -53,10 +56,10 @@ all-bits (suc (suc (suc (suc (suc (suc zero)))))) h = refl
 all-bits (suc (suc (suc (suc (suc (suc (suc zero))))))) h = refl
 all-bits (suc (suc (suc (suc (suc (suc (suc (suc c)))))))) h = absurd (omega arith)
 
-pub kept-all : (es : List (Edge ℤ)) (d : Edge ℤ) → ((k : ℕ) → k < length es → keeps 255 (getD es k d) ≡ true) → kept 255 es ≡ es
+pub kept-all : (used : ℕ) (es : List (Edge ℤ)) → All (λ e. keeps used e ≡ true) es → kept used es ≡ es
 unfolding kept
-kept-all [] d h = refl
-kept-all (e ∷ es) d h = ap (λ b. keepIf b e (kept 255 es)) (h 0 (omega arith)) ∙ ap (λ l. e ∷ l) (kept-all es d (λ k l. h (suc k) (omega arith)))
+kept-all used [] h = refl
+kept-all used (e ∷ es) h = ap (λ b. keepIf b e (kept used es)) (h .0) ∙ ap (λ l. e ∷ l) (kept-all used es (h .1))
 
 -- ---- columns
 
@@ -78,34 +81,6 @@ over-more new old v n e h =
     ∙ set-at new (getD old n 0) (drop (suc n) old) v n e
     ∙ sym (append-snoc new v (drop (suc n) old))
     ∙ ap (λ m. (new ++ (v ∷ [])) ++ drop m old) (sym long)
-
-whole : (e : Edge ℕ) → edge (layerOf e) (yOf e) (fromOf e) (toOf e) ≡ e
-whole (edge l y f t) = refl
-
-pub columns-edges : (es : List (Edge ℕ)) (ls ys fs ts ls′ ys′ fs′ ts′ : List ℕ) (r : ℕ) → Columns es ls ys fs ts ls′ ys′ fs′ ts′ r → edgesFrom ls′ ys′ fs′ ts′ 0 r ≡ es
-unfolding edgesFrom
-columns-edges es ls ys fs ts ls′ ys′ fs′ ts′ r C = ap (edgesFrom ls′ ys′ fs′ ts′ 0) (C .number) ∙ from 0 es (λ j d h. ap (λ n. edge (getD ls′ n 0) (getD ys′ n 0) (getD fs′ n 0) (getD ts′ n 0)) (zero-add j) ∙ same j d h)
-  where
-    same : (j : ℕ) (d : Edge ℕ) → j < length es → edge (getD ls′ j 0) (getD ys′ j 0) (getD fs′ j 0) (getD ts′ j 0) ≡ getD es j d
-    same j d h =
-        let l : getD ls′ j 0 ≡ layerOf (getD es j d) = ap (λ c. getD c j 0) (C .layers) ∙ over-at layerOf es ls j d h in
-        let y : getD ys′ j 0 ≡ yOf (getD es j d) = ap (λ c. getD c j 0) (C .heights) ∙ over-at yOf es ys j d h in
-        let f : getD fs′ j 0 ≡ fromOf (getD es j d) = ap (λ c. getD c j 0) (C .froms) ∙ over-at fromOf es fs j d h in
-        let t : getD ts′ j 0 ≡ toOf (getD es j d) = ap (λ c. getD c j 0) (C .tos) ∙ over-at toOf es ts j d h in
-        (cc) ∙ whole (getD es j d)
-
-    from : (i : ℕ) (rest : List (Edge ℕ)) → ((j : ℕ) (d : Edge ℕ) → j < length rest → edge (getD ls′ (i + j) 0) (getD ys′ (i + j) 0) (getD fs′ (i + j) 0) (getD ts′ (i + j) 0) ≡ getD rest j d)
-        → edgesFrom ls′ ys′ fs′ ts′ i (length rest) ≡ rest
-    from i [] h = refl
-    from i (e ∷ rest) h =
-        ap₂ _∷_ (ap (λ n. edge (getD ls′ n 0) (getD ys′ n 0) (getD fs′ n 0) (getD ts′ n 0)) (here i) ∙ h 0 e (omega arith))
-        (from (suc i) rest (λ j d l. ap (λ n. edge (getD ls′ n 0) (getD ys′ n 0) (getD fs′ n 0) (getD ts′ n 0)) (next i j) ∙ h (suc j) d (omega arith)))
-      where
-        here : (i : ℕ) → i ≡ i + 0
-        here i = omega arith
-
-        next : (i j : ℕ) → suc i + j ≡ i + suc j
-        next i j = omega arith
 
 -- ---- one edge
 

@@ -5,15 +5,17 @@ ghost use Prim.Native.Nat.{_+_, _*_, _/_, _≤_, _<_};
 ghost use lib.ListN.{length, getD};
 ghost use Rattle.meaning.specs.Numbers.{limit};
 ghost use Rattle.meaning.specs.Edges.{edgesOf};
+ghost use Rattle.basics.specs.Bits.{bitAt};
 ghost use Rattle.basics.specs.Fours.{edgeAt};
+ghost use Rattle.basics.specs.Sound.{SoundList, lifted};
 ghost use Rattle.sums.specs.Pairs.{Pairs};
 ghost use Rattle.buckets.specs.Buckets.{Below};
-ghost use Rattle.columns.specs.Kept.{bitOf, keeps, kept, lifted, Sound, Taken, Columns};
+ghost use Rattle.columns.specs.Kept.{keeps, kept, Taken, Columns};
 
 // Whether bit `layer` of the byte is set.
 fn is_kept(used: u8, layer: u32) -> bool
     requires { ⌜ layer < 8 ⌝ }
-    ensures { λ r. ⌜ r ≡ bitOf used layer ⌝ }
+    ensures { λ r. ⌜ r ≡ bitAt used layer ⌝ }
 {
     (used as u32 >> layer) % 2 == 1
 }
@@ -29,7 +31,7 @@ fn take_in(
     fs: &mut [u32],
     ts: &mut [u32],
 ) -> usize
-    requires { ⌜ Sound 7 limit (now edges) × (k < length (now edges) / 4) ⌝ }
+    requires { ⌜ SoundList 7 limit (now edges) × (k < length (now edges) / 4) ⌝ }
     requires { ⌜ (n < length (now ls)) × ((n < length (now ys)) × ((n < length (now fs)) × (n < length (now ts)))) ⌝ }
     ensures { λ r. ⌜ Taken (keeps used (edgeAt (now (edges .entry)) k)) (lifted limit (edgeAt (now (edges .entry)) k)) n (now (ls .entry)) (now (ys .entry)) (now (fs .entry)) (now (ts .entry)) (now (ls .exit)) (now (ys .exit)) (now (fs .exit)) (now (ts .exit)) r ⌝ }
 {
@@ -53,7 +55,7 @@ pub fn gather(
     fs: &mut [u32],
     ts: &mut [u32],
 ) -> usize
-    requires { ⌜ Sound 7 limit (now edges) ⌝ }
+    requires { ⌜ SoundList 7 limit (now edges) ⌝ }
     requires { ⌜ (length (now edges) / 4 ≤ length (now ls)) × ((length (now edges) / 4 ≤ length (now ys)) × ((length (now edges) / 4 ≤ length (now fs)) × (length (now edges) / 4 ≤ length (now ts)))) ⌝ }
     ensures { λ r. ⌜ Columns (map (lifted limit) (kept used (edgesOf (now (edges .entry))))) (now (ls .entry)) (now (ys .entry)) (now (fs .entry)) (now (ts .entry)) (now (ls .exit)) (now (ys .exit)) (now (fs .exit)) (now (ts .exit)) r ⌝ }
 {

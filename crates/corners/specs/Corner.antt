@@ -9,10 +9,10 @@ use mathlib.Core.Bool.{_&&_}
 use mathlib.Core.List.{List, [], _∷_, map}
 use Prim.Native.Nat.{ℕ, zero, suc}
 use lib.Dec.{leb, eqb}
-use Rattle.meaning.specs.Numbers.{bit}
+use Rattle.meaning.specs.Numbers.{bit, pick}
 use Rattle.meaning.specs.Edges.{Edge, edge}
 use Rattle.basics.specs.Sums.{sumOf}
-use Rattle.sums.specs.Sums.{Perm, where-true}
+use Rattle.sums.specs.Sums.{Perm}
 use Rattle.ranks.specs.Ranks.{rank}
 use Rattle.keys.specs.Key.{keyOf}
 
@@ -37,4 +37,4 @@ unfoldable pub Keyed : List ℕ → List ℕ → List Corner → List ℕ → Ty
 Keyed maj mnr cs ks = Perm ks (map (keyed maj mnr) cs)
 
 unfoldable pub countIn : List Corner → ℕ → ℕ → ℕ → ℕ → ℕ
-countIn cs w l p q = sumOf (λ c. where-true (leb (c .major) p) (where-true (leb (c .minor) q) (bit (eqb (c .layer) l && eqb (c .way) w)))) cs
+countIn cs w l p q = sumOf (λ c. pick (leb (c .major) p) (pick (leb (c .minor) q) (bit (eqb (c .layer) l && eqb (c .way) w)) 0) 0) cs

@@ -7,13 +7,13 @@ use native.Mathlib.Omega.{arith}
 use lib.Dec.{leb, eqb}
 use lib.IntN.{pos, _-ℤ_}
 use lib.ListN.{length}
-use Rattle.meaning.specs.Numbers.{bit}
+use Rattle.meaning.specs.Numbers.{bit, pick}
 use Rattle.meaning.specs.Edges.{Edge, edge, number, covers}
 use Rattle.grid.specs.Plane.{insideN, xsOf, ysOf}
 use Rattle.grid.specs.Places.{has, has-head, Rising}
 use Rattle.grid.specs.Corners.{toBy, fromBy, tos, froms, covers-corners}
 use Rattle.basics.specs.Sums.{sumOf, sum-map}
-use Rattle.sums.specs.Sums.{where-true}
+use Rattle.basics.specs.Lists.{All}
 use Rattle.ranks.specs.Ranks.{rank, rank-in, has-cons}
 use Rattle.keys.specs.Key.{marked}
 use Rattle.keys.specs.KeyLaws.{major-key, minor-key, layer-key, way-key}
@@ -29,10 +29,6 @@ pub record Placed (maj mnr : List ℕ) (c : Corner) : Type 0 where
   pub along : has (c .minor) mnr ≡ true
   pub layer-ok : c .layer < 8
   pub way-ok : c .way < 2
-
-abbrev pub All : (Corner → Type 0) → List Corner → Type 0
-All P [] = Unit {0}
-All P (c ∷ cs) = P c × All P cs
 
 pub sum-all : (P : Corner → Type 0) (f g : Corner → ℕ) (cs : List Corner) → All P cs → ((c : Corner) → P c → f c ≡ g c) → sumOf f cs ≡ sumOf g cs
 unfolding sumOf
@@ -59,7 +55,7 @@ counted-corners ks maj mnr cs w l p q rj rn few a K =
 
 -- ---- the corners of edges
 
-none : (a b c : Bool) → where-true a (where-true b (bit (c && false))) ≡ 0
+none : (a b c : Bool) → pick a (pick b (bit (c && false)) 0) 0 ≡ 0
 none true true true = refl
 none true true false = refl
 none true false true = refl
@@ -69,7 +65,7 @@ none false true false = refl
 none false false true = refl
 none false false false = refl
 
-across-along : (a b c : Bool) → where-true a (where-true b (bit (c && true))) ≡ bit (b && (a && c))
+across-along : (a b c : Bool) → pick a (pick b (bit (c && true)) 0) 0 ≡ bit (b && (a && c))
 across-along true true true = refl
 across-along true true false = refl
 across-along true false true = refl
@@ -79,7 +75,7 @@ across-along false true false = refl
 across-along false false true = refl
 across-along false false false = refl
 
-along-across : (a b c : Bool) → where-true a (where-true b (bit (c && true))) ≡ bit (a && (b && c))
+along-across : (a b c : Bool) → pick a (pick b (bit (c && true)) 0) 0 ≡ bit (a && (b && c))
 along-across true true true = refl
 along-across true true false = refl
 along-across true false true = refl

@@ -9,20 +9,20 @@ use native.Mathlib.Decide.{decLt}
 use lib.Dec.{leb, ltb, eqb}
 use lib.ListN.{length, getD, length-map}
 use borrow.Author.Tests.{le-leb, lt-leb, lt-ltb, le-ltb, ltb-true}
-use Rattle.meaning.specs.Numbers.{bit}
+use Rattle.meaning.specs.Numbers.{bit, pick}
 use Rattle.meaning.specs.Edges.{Edge, edge, number}
 use Rattle.grid.specs.Plane.{ClosedN}
 use Rattle.grid.specs.Places.{has, Rising}
 use Rattle.grid.specs.Corners.{toCol, fromCol, closed-columns}
 use Rattle.basics.specs.Sums.{sumOf, sum-map}
-use Rattle.sums.specs.Sums.{where-true}
+use Rattle.basics.specs.Lists.{All}
 use Rattle.sums.specs.Laws.{prefix-sum}
 use Rattle.sums.specs.Members.{perm-length}
 use Rattle.ranks.specs.Ranks.{rank, rank-in, rank-leb}
 use Rattle.keys.specs.Key.{majorOf, minorOf, marked, hit, passed, ByPoint, Cut, Even, KeysOk}
 use Rattle.keys.specs.KeyLaws.{major-key, minor-key, layer-key, way-key, minor-less}
 use Rattle.corners.specs.Corner.{Corner, cornersOf, keyed, Keyed}
-use Rattle.corners.specs.CornerCells.{Placed, All, sum-all}
+use Rattle.corners.specs.CornerCells.{Placed, sum-all}
 
 none-each : (f : ℕ → ℕ) (xs : List ℕ) (i : ℕ) → sumOf f xs ≡ 0 → i < length xs → f (getD xs i 0) ≡ 0
 unfolding sumOf
@@ -41,7 +41,7 @@ not-bit false e = absurd (omega arith)
 
 -- the corners before major rank p, of layer l and direction d
 unfoldable pub beforePlace : List ℕ → List Corner → ℕ → ℕ → ℕ → ℕ
-beforePlace maj cs w l p = sumOf (λ c. where-true (ltb (rank maj (c .major)) p) (bit (eqb (c .layer) l && eqb (c .way) w))) cs
+beforePlace maj cs w l p = sumOf (λ c. pick (ltb (rank maj (c .major)) p) (bit (eqb (c .layer) l && eqb (c .way) w)) 0) cs
 
 module _ (maj mnr : List ℕ) (cs : List Corner) (ks : List ℕ) (rj : Rising zero maj) (rn : Rising zero mnr) (few : length mnr ≤ 8192) (a : All (Placed maj mnr) cs) (K : Keyed maj mnr cs ks) where
   -- what holds of each corner's key holds of each key
@@ -89,7 +89,7 @@ module _ (maj mnr : List ℕ) (cs : List Corner) (ks : List ℕ) (rj : Rising ze
 -- ---- as many corners of the one direction as of the other
 
 -- where the test is of what an edge's two corners share
-pair-even : (a b : Bool) → where-true a (bit (b && eqb 0 1)) + where-true a (bit (b && eqb 1 1)) ≡ where-true a (bit (b && eqb 0 0)) + where-true a (bit (b && eqb 1 0))
+pair-even : (a b : Bool) → pick a (bit (b && eqb 0 1)) 0 + pick a (bit (b && eqb 1 1)) 0 ≡ pick a (bit (b && eqb 0 0)) 0 + pick a (bit (b && eqb 1 0)) 0
 pair-even true true = refl
 pair-even true false = refl
 pair-even false true = refl
@@ -102,7 +102,7 @@ even-level maj [] l p = refl
 even-level maj (edge c y f t ∷ es) l p = omega (arith, pair-even (ltb (rank maj y) p) (eqb c l), even-level maj es l p)
 
 -- kind 1: by the columns of a closed list
-to-side : (a b c : Bool) → where-true a (bit (c && eqb 0 1)) + where-true b (bit (c && eqb 1 1)) ≡ bit (b && c)
+to-side : (a b c : Bool) → pick a (bit (c && eqb 0 1)) 0 + pick b (bit (c && eqb 1 1)) 0 ≡ bit (b && c)
 to-side true true true = refl
 to-side true true false = refl
 to-side true false true = refl
@@ -112,7 +112,7 @@ to-side false true false = refl
 to-side false false true = refl
 to-side false false false = refl
 
-from-side : (a b c : Bool) → where-true a (bit (c && eqb 0 0)) + where-true b (bit (c && eqb 1 0)) ≡ bit (a && c)
+from-side : (a b c : Bool) → pick a (bit (c && eqb 0 0)) 0 + pick b (bit (c && eqb 1 0)) 0 ≡ bit (a && c)
 from-side true true true = refl
 from-side true true false = refl
 from-side true false true = refl

@@ -8,18 +8,19 @@
 --   Fed es truth xs ys hs vs     for both kinds: hs by y, vs by x
 use mathlib.Core.Path.{_≡_}
 use mathlib.Core.Bool.{Bool, true, false}
-use mathlib.Core.List.{List, [], _∷_}
+use mathlib.Core.List.{List}
 use Prim.Native.Nat.{ℕ, zero, _<_, _≤_}
 use lib.ListN.{length, getD}
-use Rattle.meaning.specs.Edges.{Edge, edge}
+use Rattle.meaning.specs.Edges.{Edge}
+use Rattle.basics.specs.Lists.{All}
+use Rattle.basics.specs.Fours.{layerOf}
 use Rattle.grid.specs.Plane.{ClosedN, xsOf, ysOf}
 use Rattle.grid.specs.Places.{has, Rising}
 use Rattle.keys.specs.Key.{ByPoint}
 use Rattle.corners.specs.Corner.{Corner, cornersOf, Keyed}
 
 abbrev pub Layers : List (Edge ℕ) → Type 0
-Layers [] = Unit {0}
-Layers (edge l y f t ∷ es) = (l < 8) × Layers es
+Layers es = All (λ e. layerOf e < 8) es
 
 pub record Sound (es : List (Edge ℕ)) (truth : List Bool) : Type 0 where
   pub few : length es ≤ 4096

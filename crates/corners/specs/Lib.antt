@@ -5,4 +5,3 @@ pub mod Fed
 pub mod CornerCells
 pub mod Even
 pub mod Link
-pub mod Columns

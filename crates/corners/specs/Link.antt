@@ -14,19 +14,21 @@ use Rattle.meaning.specs.Edges.{Edge, edge}
 use Rattle.meaning.specs.Cells.{turn}
 use Rattle.meaning.specs.Records.{Record}
 use Rattle.grid.specs.Plane.{insideN, levelN, uprightN, kindN, kindAt, resultN, xsOf, ysOf}
-use Rattle.grid.specs.Places.{has}
+use Rattle.grid.specs.Places.{has, has-head}
 use Rattle.grid.specs.Compression.{row-same, row-early, row-late, col-same, col-early, level-jumps, level-none, upright-jumps, upright-none, kind-at}
 use Rattle.grid.specs.Rows.{turned, rows, rows-are}
 use Rattle.basics.specs.Sums.{sumOf}
+use Rattle.basics.specs.Bits.{ofBits}
+use Rattle.basics.specs.Lists.{All}
 use Rattle.grid.specs.AreaLaws.{plus, minus, cellsN}
 use Rattle.grid.specs.Wrap.{Owes, area-wraps}
 use Rattle.ranks.specs.Ranks.{has-at, at-has}
-use Rattle.covering.specs.Cover.{coverNo, holdsOf}
+use Rattle.covering.specs.Cover.{holdsOf}
 use Rattle.runs.specs.Stretches.{turnBy}
 use Rattle.corners.specs.Swept.{swept, SweepOk}
 use Rattle.corners.specs.Corner.{cornersOf}
 use Rattle.corners.specs.Fed.{Sound, Tables, Ordered, LevelFed, Fed}
-use Rattle.corners.specs.CornerCells.{Placed, All, placed-level, placed-upright, level-cell, upright-cell}
+use Rattle.corners.specs.CornerCells.{Placed, placed-level, placed-upright, level-cell, upright-cell}
 use Rattle.corners.specs.Even.{ready, even-level, even-upright}
 
 -- ---- bounds
@@ -63,18 +65,12 @@ some-long xs v h = omega (arith, has-at v xs h .within)
 x-where-y : (es : List (Edge ℕ)) (xs : List ℕ) (v : ℕ) → has v (ysOf es) ≡ true → ((w : ℕ) → has w (xsOf es) ≡ has w xs) → 0 < length xs
 unfolding xsOf ysOf has
 x-where-y [] xs v h e = absurd (true≢false (sym h))
-x-where-y (edge l y f t ∷ es) xs v h e = some-long xs f (sym (e f) ∙ head f (t ∷ xsOf es))
-  where
-    head : (p : ℕ) (ps : List ℕ) → has p (p ∷ ps) ≡ true
-    head p ps = at-has p (p ∷ ps) (record { place = 0; within = omega arith; is = refl })
+x-where-y (edge l y f t ∷ es) xs v h e = some-long xs f (sym (e f) ∙ has-head f (t ∷ xsOf es))
 
 y-where-x : (es : List (Edge ℕ)) (ys : List ℕ) (v : ℕ) → has v (xsOf es) ≡ true → ((w : ℕ) → has w (ysOf es) ≡ has w ys) → 0 < length ys
 unfolding xsOf ysOf has
 y-where-x [] ys v h e = absurd (true≢false (sym h))
-y-where-x (edge l y f t ∷ es) ys v h e = some-long ys y (sym (e y) ∙ head y (ysOf es))
-  where
-    head : (p : ℕ) (ps : List ℕ) → has p (p ∷ ps) ≡ true
-    head p ps = at-has p (p ∷ ps) (record { place = 0; within = omega arith; is = refl })
+y-where-x (edge l y f t ∷ es) ys v h e = some-long ys y (sym (e y) ∙ has-head y (ysOf es))
 
 -- ---- one list, its tables and its keys
 
@@ -128,7 +124,7 @@ module _ {es : List (Edge ℕ)} {truth : List Bool} {xs ys : List ℕ} (S : Soun
   }
 
   holds-none : holdsOf truth (λ c. false) ≡ false
-  unfolding holdsOf coverNo
+  unfolding holdsOf ofBits
   holds-none = S .empty
 
   past-x : (v : ℕ) → 2147483648 < v → has v (xsOf es) ≡ false

@@ -12,20 +12,19 @@ use Prim.Native.Nat.{ℕ, zero, _<_, _≤_}
 use lib.Dec.{leb}
 use lib.IntN.{pos, _-ℤ_}
 use lib.ListN.{length, getD}
-use Rattle.meaning.specs.Numbers.{bit}
+use Rattle.meaning.specs.Numbers.{bit, pick}
 use Rattle.meaning.specs.Edges.{covers}
 use Rattle.meaning.specs.Records.{Record}
 use Rattle.grid.specs.Places.{Rising}
 use Rattle.grid.specs.Rows.{rows}
 use Rattle.basics.specs.Sums.{sumOf}
-use Rattle.sums.specs.Sums.{where-true}
 use Rattle.keys.specs.Key.{majorOf, minorOf, marked, KeysOk}
 use Rattle.covering.specs.Cover.{holdsOf}
 use Rattle.runs.specs.Stretches.{turnBy}
 
 unfoldable pub counted : List ℕ → List ℕ → List ℕ → ℕ → ℕ → ℕ → ℕ → ℕ
 counted ks maj mnr w l p q =
-    sumOf (λ k. where-true (leb (getD maj (majorOf k) 0) p) (where-true (leb (getD mnr (minorOf k) 0) q) (bit (marked w l k)))) ks
+    sumOf (λ k. pick (leb (getD maj (majorOf k) 0) p) (pick (leb (getD mnr (minorOf k) 0) q) (bit (marked w l k)) 0) 0) ks
 
 unfoldable pub cellOf : List ℕ → List ℕ → List ℕ → List Bool → ℕ → ℕ → Bool
 cellOf ks maj mnr truth p q = holdsOf truth (λ l. covers (pos (counted ks maj mnr 1 l p q) -ℤ pos (counted ks maj mnr 0 l p q)))

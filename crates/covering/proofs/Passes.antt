@@ -12,9 +12,10 @@ use lib.Seq.{getD-set-same, getD-set-other}
 use borrow.Author.Tests.{lt-ltb, le-ltb}
 use Rattle.meaning.specs.Numbers.{bit, pick}
 use Rattle.meaning.specs.Edges.{covers}
+use Rattle.basics.specs.Bits.{ofBits, ofBits-same}
 use Rattle.rows.specs.Rows.{rowAt}
-use Rattle.covering.specs.Cover.{coverNo, holdsOf, coversRow, turnedTo, Passed, Digits, Told, Covered, CoverOk, Flags, InsideOk}
-use Rattle.covering.specs.CoverLaws.{no-same, turned-no}
+use Rattle.covering.specs.Cover.{holdsOf, coversRow, turnedTo, Passed, Digits, Told, Covered, CoverOk, Flags, InsideOk}
+use Rattle.covering.specs.CoverLaws.{turned-no}
 
 -- ---- one pass: the rows below r are done
 
@@ -70,19 +71,19 @@ mixed-other c was r l k n = go (decLt k l)
 pub record Covering (c was m : List ℕ) (l : ℕ) : Type 0 where
   pub layers : l ≤ 8
   pub long : length m ≡ 8192
-  pub each : (r : ℕ) → r < 8192 → getD m r 0 ≡ coverNo 8 (mixed c was r l)
+  pub each : (r : ℕ) → r < 8192 → getD m r 0 ≡ ofBits 8 (mixed c was r l)
 
 pub cover-start : (c was m : List ℕ) → Covered was m → Covering c was m 0
 cover-start c was m C = record {
   layers = omega arith;
   long = C .long;
-  each = λ r h. C .each r h ∙ no-same 8 (coversRow was r) (mixed c was r 0) (λ k _. sym (mixed-high c was r 0 k (omega arith)));
+  each = λ r h. C .each r h ∙ ofBits-same 8 (coversRow was r) (mixed c was r 0) (λ k _. sym (mixed-high c was r 0 k (omega arith)));
 }
 
 module _ {c m₀ : List ℕ} {a b : ℕ} {seen : List ℕ} (ok : CoverOk c m₀ a b seen) {m : List ℕ} {l : ℕ} (S : Covering c (ok .was) m l) (h : l < 8) where
   -- a row that is as it was in this layer
-  quiet : (r : ℕ) → rowAt c l r ≡ rowAt (ok .was) l r → coverNo 8 (mixed c (ok .was) r l) ≡ coverNo 8 (mixed c (ok .was) r (l + 1))
-  quiet r e = no-same 8 _ _ (λ k hk. go k (ℕ-discrete k l))
+  quiet : (r : ℕ) → rowAt c l r ≡ rowAt (ok .was) l r → ofBits 8 (mixed c (ok .was) r l) ≡ ofBits 8 (mixed c (ok .was) r (l + 1))
+  quiet r e = ofBits-same 8 _ _ (λ k hk. go k (ℕ-discrete k l))
     where
       go : (k : ℕ) → Dec (k ≡ l) → mixed c (ok .was) r l k ≡ mixed c (ok .was) r (l + 1) k
       go k (yes q) =
@@ -106,7 +107,7 @@ module _ {c m₀ : List ℕ} {a b : ℕ} {seen : List ℕ} (ok : CoverOk c m₀ 
             each = λ r hr. here r hr (decLt r a) (decLt r b);
           }
         where
-          here : (r : ℕ) → r < 8192 → Dec (r < a) → Dec (r < b) → getD m′ r 0 ≡ coverNo 8 (mixed c (ok .was) r (l + 1))
+          here : (r : ℕ) → r < 8192 → Dec (r < a) → Dec (r < b) → getD m′ r 0 ≡ ofBits 8 (mixed c (ok .was) r (l + 1))
           here r hr (yes u) v = D .1 (omega arith) .same r (λ w _. let y : ⊥ = omega arith in absurd y) ∙ S .each r hr ∙ quiet r (ok .still l r h hr (λ w _. let y : ⊥ = omega arith in absurd y))
           here r hr (no u) (no v) = D .1 (omega arith) .same r (λ _ w. v w) ∙ S .each r hr ∙ quiet r (ok .still l r h hr (λ _ w. v w))
           here r hr (no u) (yes v) =
@@ -117,7 +118,7 @@ module _ {c m₀ : List ℕ} {a b : ℕ} {seen : List ℕ} (ok : CoverOk c m₀ 
 pub cover-done : (c was m : List ℕ) (l : ℕ) → Covering c was m l → 8 ≤ l → Covered c m
 cover-done c was m l S h = record {
   long = S .long;
-  each = λ r hr. S .each r hr ∙ no-same 8 (mixed c was r l) (coversRow c r) (λ k hk. mixed-low c was r l k (omega arith));
+  each = λ r hr. S .each r hr ∙ ofBits-same 8 (mixed c was r l) (coversRow c r) (λ k hk. mixed-low c was r l k (omega arith));
 }
 
 -- ---- and the expression
@@ -131,13 +132,13 @@ inside-done {c} {m₀} {m} {truth} {new₀} {new} {a} {b} ok C T = record {
 }
   where
     -- the cover of a row that is as it was
-    stays : (r : ℕ) → r < 8192 → (a ≤ r → r < b → ⊥) → coverNo 8 (coversRow (ok .cover .was) r) ≡ coverNo 8 (coversRow c r)
-    stays r h n = no-same 8 _ _ (λ l hl. ap (λ (k : ℕ). covers (pos k -ℤ pos 8192)) (sym (ok .cover .still l r hl h n)))
+    stays : (r : ℕ) → r < 8192 → (a ≤ r → r < b → ⊥) → ofBits 8 (coversRow (ok .cover .was) r) ≡ ofBits 8 (coversRow c r)
+    stays r h n = ofBits-same 8 _ _ (λ l hl. ap (λ (k : ℕ). covers (pos k -ℤ pos 8192)) (sym (ok .cover .still l r hl h n)))
 
-    out : (r : ℕ) → r < 8192 → (a ≤ r → r < b → ⊥) → getD new r false ≡ getD truth (coverNo 8 (coversRow c r)) false
+    out : (r : ℕ) → r < 8192 → (a ≤ r → r < b → ⊥) → getD new r false ≡ getD truth (ofBits 8 (coversRow c r)) false
     out r h n = T .same r n ∙ ok .flags .told r h ∙ ap (λ (k : ℕ). getD truth k false) (stays r h n)
 
-    go : (r : ℕ) → r < 8192 → Dec (r < a) → Dec (r < b) → getD new r false ≡ getD truth (coverNo 8 (coversRow c r)) false
+    go : (r : ℕ) → r < 8192 → Dec (r < a) → Dec (r < b) → getD new r false ≡ getD truth (ofBits 8 (coversRow c r)) false
     go r h (yes u) v = out r h (λ w _. let y : ⊥ = omega arith in absurd y)
     go r h (no u) (no v) = out r h (λ _ w. v w)
     go r h (no u) (yes v) = T .made r (omega arith) v ∙ ap (λ (k : ℕ). getD truth k false) (C .each r h)

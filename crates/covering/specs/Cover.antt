@@ -1,7 +1,6 @@
 -- Which layers cover each row, as one number, its cover, and what the expression makes of it.
 --
---   coverNo n f              the number whose binary digits are f 0, f 1, .. f (n - 1)
---   holdsOf truth            the expression that a table of 256 covers has
+--   holdsOf truth            the expression that a table of 256 covers has: the entry whose number has a digit 1 for each layer that covers
 --   coversRow c r l          layer l covers row r, by the one coverage rule
 --   turnedTo m l d           the cover m with the digit of layer l made d
 --   Passed none f a b xs₀ xs one pass over the rows from a on, below b; Digits, Told: the two passes there are
@@ -11,20 +10,16 @@
 use mathlib.Core.Path.{_≡_}
 use mathlib.Core.Bool.{Bool, false}
 use mathlib.Core.List.{List}
-use Prim.Native.Nat.{ℕ, zero, suc, _+_, _*_, _-_, _/_, _%_, _^_, _<_, _≤_}
+use Prim.Native.Nat.{ℕ, _+_, _*_, _-_, _/_, _%_, _^_, _<_, _≤_}
 use lib.IntN.{pos, _-ℤ_}
 use lib.ListN.{length, getD}
 use Rattle.meaning.specs.Numbers.{bit}
 use Rattle.meaning.specs.Edges.{covers}
-use Rattle.sums.specs.Sums.{where-true}
+use Rattle.basics.specs.Bits.{ofBits}
 use Rattle.rows.specs.Rows.{rowAt}
 
-unfoldable pub coverNo : ℕ → (ℕ → Bool) → ℕ
-coverNo zero f = 0
-coverNo (suc n) f = coverNo n f + where-true (f n) (2 ^ n)
-
 unfoldable pub holdsOf : List Bool → (ℕ → Bool) → Bool
-holdsOf truth f = getD truth (coverNo 8 f) false
+holdsOf truth f = getD truth (ofBits 8 f) false
 
 abbrev pub coversRow : List ℕ → ℕ → ℕ → Bool
 coversRow c r l = covers (pos (rowAt c l r) -ℤ pos 8192)
@@ -46,7 +41,7 @@ Told m truth a b new₀ new = Passed false (λ r. getD truth (getD m r 0) false)
 
 pub record Covered (c m : List ℕ) : Type 0 where
   pub long : length m ≡ 8192
-  pub each : (r : ℕ) → r < 8192 → getD m r 0 ≡ coverNo 8 (coversRow c r)
+  pub each : (r : ℕ) → r < 8192 → getD m r 0 ≡ ofBits 8 (coversRow c r)
 
 pub record CoverOk (c m : List ℕ) (a b : ℕ) (seen : List ℕ) : Type 0 where
   pub was : List ℕ

@@ -1,123 +1,40 @@
--- The tables of run and area: what acceptance says of an edge list, and that answers meeting a contract are equal. Assumes nothing.
+-- The tables of run and area: that answers meeting a contract are equal, and what acceptance says. Assumes nothing.
 --
---   AcceptedEdges ns        what acceptance says of an edge list
---   edges-accepted          a list that refusals 1 to 5 let pass is such
---   edges-silent, text-silent   no refusal is an acceptance
+--   text-silent, call-silent   no refusal of a text, and none of the refusals 1 to 9 of a call, is an acceptance
+--   call-single             each of the refusals 1 to 9 says at most one answer
 --   one-run, one-area       ONE ANSWER: outcomes of a run, and answers of the area call, that meet the contract are equal
+--   AcceptedRun ..          what acceptance says of a run
 --   run-accepted, area-accepted   what acceptance of the whole call says
 use mathlib.Core.Path.{_≡_, refl, sym, ap, ap₂, _∙_, subst}
-use mathlib.Core.Bool.{Bool, true, false, _&&_}
-use mathlib.Core.Logic.{_⊎_, inl, inr}
-use mathlib.Core.List.{List, [], _∷_, _++_, map, append-assoc, append-nil}
-use Prim.Native.Nat.{ℕ, zero, suc, _+_, _*_, _/_, _%_, _≤_, _<_}
+use mathlib.Core.Logic.{inl, inr}
+use mathlib.Core.List.{List, [], _∷_, _++_, map, append-nil}
+use Prim.Native.Nat.{ℕ, _+_, _*_, _≤_, _<_}
 use native.Mathlib.Omega.{arith}
-use native.Mathlib.Decide.{decLt, ℕ-discrete}
+use native.Mathlib.Decide.{decLt}
 use lib.IntN.{ℤ}
 use lib.ListN.{length, drop}
 use Rattle.meaning.specs.Numbers.{limit}
-use Rattle.meaning.specs.Answers.{Answer, answer, accepted, Row, given, First, not-fours, too-many-edges, out-of-range, from-equals-to, not-closed, too-little-room, expression-length, too-deep, not-in-grammar, holds-on-nothing}
-use Rattle.meaning.specs.Edges.{Edge, edge, edgesOf, west, east, on, number, Closed, soundEdge, flat, recordRows, edgeRows}
+use Rattle.meaning.specs.Answers.{Answer, answer, accepted, Row, First, too-little-room, expression-length, too-deep, not-in-grammar, holds-on-nothing}
+use Rattle.meaning.specs.Edges.{edgeRows}
 use Rattle.meaning.specs.Expression.{Expr, sum, Is, refusals, Judged}
 use Rattle.meaning.specs.Records.{numbersOf}
 use Rattle.meaning.specs.Calls.{recordsOf, areaOf, Outcome, outcome, unchanged, callRows, Short, Written, Runs, Areas}
-use Rattle.basics.specs.Lists.{All}
 use Rattle.basics.specs.Tables.{Single, Singles, single-given, one-answer, Silent, first-later, first-open, silent-append, singles-append}
-use Rattle.laws.specs.Covered.{Sound}
+use Rattle.laws.specs.Accepting.{AcceptedEdges, not-accepted, edges-accepted, edges-silent, edges-single}
 use Rattle.expression_laws.specs.Meanings.{one-expression}
 
 -- ---- no refusal is an acceptance
 
-other : (a : Answer) (v : ℕ) (fact : Type 0) → (a .number ≡ 0 → ⊥) → given fact a (accepted v) → ⊥
-other a v fact n x = n (sym (ap (λ (r : Answer). r .number) (x .1)))
-
-records-silent : (top L k : ℕ) (es : List (Edge ℤ)) (v : ℕ) → Silent (accepted v) (recordRows top L k es)
-records-silent top L k [] v = tt
-records-silent top L k (e ∷ es) v = (other (out-of-range k) v _ (λ z. omega arith), (other (from-equals-to k) v _ (λ z. omega arith), records-silent top L (suc k) es v))
-
-pub edges-silent : (top L : ℕ) (ns : List ℤ) (v : ℕ) → Silent (accepted v) (edgeRows top L ns)
-edges-silent top L ns v = (
-  other not-fours v _ (λ z. omega arith),
-  (
-    other too-many-edges v _ (λ z. omega arith),
-    silent-append (accepted v) (recordRows top L 0 (edgesOf ns)) _ (records-silent top L 0 (edgesOf ns) v) (other not-closed v _ (λ z. omega arith), tt),
-  ),
-)
-
 pub text-silent : (text : List ℕ) (v : ℕ) → Silent (accepted v) (refusals text)
 text-silent text v =
-    (other expression-length v _ (λ z. omega arith), (other too-deep v _ (λ z. omega arith), (other not-in-grammar v _ (λ z. omega arith), (other holds-on-nothing v _ (λ z. omega arith), tt))))
+    (not-accepted expression-length v _ (λ z. omega arith), (not-accepted too-deep v _ (λ z. omega arith), (not-accepted not-in-grammar v _ (λ z. omega arith), (not-accepted holds-on-nothing v _ (λ z. omega arith), tt))))
 
--- ---- what acceptance says of an edge list
-
-pub record AcceptedEdges (top L : ℕ) (ns : List ℤ) : Type 0 where
-  pub fours : length ns % 4 ≡ 0
-  pub few : length ns / 4 ≤ 4096
-  pub sound : Sound top L (edgesOf ns)
-  pub sloping : All (λ e. flat e ≡ false) (edgesOf ns)
-  pub closed : Closed (edgesOf ns)
-
-not-false : (b : Bool) → ((b ≡ false → ⊥)) → b ≡ true
-not-false true h = refl
-not-false false h = absurd (h refl)
-
-not-true : (b : Bool) → ((b ≡ true → ⊥)) → b ≡ false
-not-true true h = absurd (h refl)
-not-true false h = refl
-
-records-sound : (top L k : ℕ) (es : List (Edge ℤ)) (more : List (Row Answer)) (Last : Row Answer) (v : ℕ) → First (recordRows top L k es ++ more) Last (accepted v)
-    → Sound top L es × All (λ e. flat e ≡ false) es × First more Last (accepted v)
-records-sound top L k [] more Last v x = (tt, tt, x)
-records-sound top L k (e ∷ es) more Last v (inl x) = absurd (other (out-of-range k) v _ (λ z. omega arith) x)
-records-sound top L k (e ∷ es) more Last v (inr (_, inl x)) = absurd (other (from-equals-to k) v _ (λ z. omega arith) x)
-records-sound top L k (e ∷ es) more Last v (inr (a, inr (b, x))) =
-    let r = records-sound top L (suc k) es more Last v x in
-    ((not-false (soundEdge top L e) (λ h. a (out-of-range k) (h, refl)), r .0), (not-true (flat e) (λ h. b (from-equals-to k) (h, refl)), r .1), r .2)
-
-stable : (es : List (Edge ℤ)) → ((Closed es → ⊥) → ⊥) → Closed es
-unfolding Closed
-stable es h c i = go (ℕ-discrete (number (λ e. on c e && west i e) es) (number (λ e. on c e && east i e) es))
-  where
-    go : Dec (number (λ e. on c e && west i e) es ≡ number (λ e. on c e && east i e) es) → number (λ e. on c e && west i e) es ≡ number (λ e. on c e && east i e) es
-    go (yes p) = p
-    go (no p) = absurd (h (λ k. p (k c i)))
-
-pub edges-accepted : (top L : ℕ) (ns : List ℤ) (more : List (Row Answer)) (Last : Row Answer) (v : ℕ) → First (edgeRows top L ns ++ more) Last (accepted v) → AcceptedEdges top L ns × First more Last (accepted v)
-edges-accepted top L ns more Last v (inl x) = absurd (other not-fours v _ (λ z. omega arith) x)
-edges-accepted top L ns more Last v (inr (_, inl x)) = absurd (other too-many-edges v _ (λ z. omega arith) x)
-edges-accepted top L ns more Last v (inr (a, inr (b, x))) = go (records-sound top L 0 (edgesOf ns) (given (Closed (edgesOf ns) → ⊥) not-closed ∷ more) Last v (subst (λ (rows : List (Row Answer)). First rows Last (accepted v)) (append-assoc (recordRows top L 0 (edgesOf ns)) (given (Closed (edgesOf ns) → ⊥) not-closed ∷ []) more) x))
-  where
-    fours : Dec (length ns % 4 ≡ 0) → length ns % 4 ≡ 0
-    fours (yes p) = p
-    fours (no p) = absurd (a not-fours (p, refl))
-
-    few : Dec (4096 < length ns / 4) → length ns / 4 ≤ 4096
-    few (yes p) = absurd (b too-many-edges (p, refl))
-    few (no p) = omega arith
-
-    go : Sound top L (edgesOf ns) × All (λ e. flat e ≡ false) (edgesOf ns) × First (given (Closed (edgesOf ns) → ⊥) not-closed ∷ more) Last (accepted v) → AcceptedEdges top L ns × First more Last (accepted v)
-    go (s, f, inl y) = absurd (other not-closed v _ (λ z. omega arith) y)
-    go (s, f, inr (c, y)) = (
-      record {
-        fours = fours (ℕ-discrete (length ns % 4) 0);
-        few = few (decLt 4096 (length ns / 4));
-        sound = s;
-        sloping = f;
-        closed = stable (edgesOf ns) (λ h. c not-closed (h, refl));
-      },
-      y,
-    )
+pub call-silent : (ns : List ℤ) (text : List ℕ) (v : ℕ) → Silent (accepted v) (callRows ns text)
+call-silent ns text v = silent-append (accepted v) (edgeRows 7 limit ns) (refusals text) (edges-silent 7 limit ns v) (text-silent text v)
 
 -- ---- one answer
 
-records-single : (top L k : ℕ) (es : List (Edge ℤ)) → Singles (recordRows top L k es)
-records-single top L k [] = tt
-records-single top L k (e ∷ es) = (single-given _ (out-of-range k), (single-given _ (from-equals-to k), records-single top L (suc k) es))
-
-pub edges-single : (top L : ℕ) (ns : List ℤ) → Singles (edgeRows top L ns)
-edges-single top L ns =
-    (single-given _ not-fours, (single-given _ too-many-edges, singles-append (recordRows top L 0 (edgesOf ns)) _ (records-single top L 0 (edgesOf ns)) (single-given _ not-closed, tt)))
-
-call-single : (ns : List ℤ) (text : List ℕ) → Singles (callRows ns text)
+pub call-single : (ns : List ℤ) (text : List ℕ) → Singles (callRows ns text)
 call-single ns text =
     singles-append (edgeRows 7 limit ns) (refusals text) (edges-single 7 limit ns)
     (single-given _ expression-length, (single-given _ too-deep, (single-given _ not-in-grammar, (single-given _ holds-on-nothing, tt))))
@@ -125,6 +42,24 @@ call-single ns text =
 unchanged-single : (out : List ℤ) (rows : List (Row Answer)) → Singles rows → Singles (map (unchanged out) rows)
 unchanged-single out [] s = tt
 unchanged-single out (row ∷ rows) s = ((λ o p x y. ap₂ outcome (s .0 (o .answer) (p .answer) (x .0) (y .0)) (x .1 ∙ sym (y .1))), unchanged-single out rows (s .1))
+
+-- the rows let an acceptance pass, and a later row or the end of the table says what the outcome is
+unchanged-open : (out after : List ℤ) (rows : List (Row Answer)) (more : List (Row Outcome)) (Last : Row Outcome) (v : ℕ) → Silent (accepted v) rows → First (map (unchanged out) rows ++ more) Last (outcome (accepted v) after)
+    → First rows (λ r. r ≡ accepted 0) (accepted 0) × First more Last (outcome (accepted v) after)
+unchanged-open out after [] more Last v s x = (refl, x)
+unchanged-open out after (row ∷ rows) more Last v s (inl x) = absurd (s .0 (x .0))
+unchanged-open out after (row ∷ rows) more Last v s (inr x) =
+    let y = unchanged-open out after rows more Last v (s .1) (x .1) in
+    (inr ((λ a z. x .0 (outcome a out) (z, refl)), y .0), y .1)
+
+-- no refusal applies, and the records and their number are those of the expression e
+pub record AcceptedRun (ns : List ℤ) (text : List ℕ) (out : List ℤ) (v : ℕ) (after : List ℤ) : Type 0 where
+  pub passed : First (callRows ns text) (λ r. r ≡ accepted 0) (accepted 0)
+  pub expr : Expr
+  pub is : Is sum text expr
+  pub count : v ≡ length (recordsOf ns expr)
+  pub room : 4 * length (recordsOf ns expr) ≤ length out
+  pub buffer : after ≡ numbersOf (recordsOf ns expr) ++ drop (4 * length (recordsOf ns expr)) out
 
 module _ (ns : List ℤ) (text : List ℕ) where
   pub one-run : (out : List ℤ) → Single (Runs ns text out)
@@ -158,3 +93,22 @@ module _ (ns : List ℤ) (text : List ℕ) where
         first-open (refusals text) [] (λ a. (e : Expr) × Is sum text e × (a ≡ accepted (areaOf ns e))) (λ r. r ≡ accepted 0) (accepted v) (accepted 0) (subst (λ (rows : List (Row Answer)). First rows (λ a. (e : Expr) × Is sum text e × (a ≡ accepted (areaOf ns e))) (accepted v)) (sym (append-nil (refusals text))) (y .1)) (text-silent text v) refl,
         (z .0, z .1, ap (λ (a : Answer). a .value) (z .2)),
       )
+
+  pub run-accepted : (out after : List ℤ) (v : ℕ) → Runs ns text out (outcome (accepted v) after) → AcceptedRun ns text out v after
+  unfolding Runs
+  run-accepted out after v x = let y = unchanged-open out after (callRows ns text) (Short ns text out ∷ []) (Written ns text out) v (call-silent ns text v) x in go (y .0) (y .1)
+    where
+      go : First (callRows ns text) (λ r. r ≡ accepted 0) (accepted 0) → First (Short ns text out ∷ []) (Written ns text out) (outcome (accepted v) after) → AcceptedRun ns text out v after
+      go p (inl (e, is, h, o)) = let z : _≡_ {A = ℕ} 0 10 = ap (λ (q : Outcome). q .answer .number) o in absurd (omega arith)
+      go p (inr (n, (e, is, o))) = record {
+        passed = p;
+        expr = e;
+        is = is;
+        count = ap (λ (q : Outcome). q .answer .value) o;
+        room = room (decLt (length out) (4 * length (recordsOf ns e)));
+        buffer = ap (λ (q : Outcome). q .buffer) o;
+      }
+        where
+          room : Dec (length out < 4 * length (recordsOf ns e)) → 4 * length (recordsOf ns e) ≤ length out
+          room (yes h) = absurd (n (outcome (too-little-room (length (recordsOf ns e))) out) (e, is, h, refl))
+          room (no h) = omega arith

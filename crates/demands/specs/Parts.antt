@@ -2,10 +2,10 @@
 --
 --   whole-by-parts    WORK BY PARTS: with the part's kind 0 records put in as an unused letter's layer, the shortened text gives the whole's records
 --   and-plus-or       AND PLUS OR: the areas of `(s)*(t)` and `(s)+(t)` are together those of s and t
-use mathlib.Core.Path.{_≡_, refl, sym, ap, ap₂, _∙_, fun-ext}
-use mathlib.Core.Bool.{Bool, true, false, _&&_, _||_}
+use mathlib.Core.Path.{_≡_, refl, ap, ap₂, _∙_, fun-ext}
+use mathlib.Core.Bool.{Bool, false, _&&_, _||_}
 use mathlib.Core.List.{List, [], _∷_, _++_}
-use Prim.Native.Nat.{ℕ, zero, suc, _+_, _%_, _≤_}
+use Prim.Native.Nat.{ℕ, _+_, _%_, _≤_}
 use Prim.Native.Char.{code}
 use native.Mathlib.Omega.{arith}
 use lib.Dec.{eqb}
@@ -14,19 +14,19 @@ use lib.ListN.{length}
 use Rattle.meaning.specs.Numbers.{pick, limit}
 use Rattle.meaning.specs.Answers.{accepted}
 use Rattle.meaning.specs.Edges.{Edge, edge, edgesOf, edgeNumbers, on}
-use Rattle.meaning.specs.Expression.{Expr, Handed, nothing, with-layer, eval, sum, Is, Means, Judged}
+use Rattle.meaning.specs.Expression.{Expr, Handed, nothing, with-layer, eval, sum, Is, Judged}
 use Rattle.meaning.specs.Cells.{handed, inside, Within}
-use Rattle.meaning.specs.Records.{Record, result, putIn}
+use Rattle.meaning.specs.Records.{result, putIn}
 use Rattle.meaning.specs.Area.{cells}
 use Rattle.meaning.specs.Calls.{cellsOf, recordsOf, areaOf}
 use Rattle.basics.specs.Lists.{All}
 use Rattle.laws.specs.Covered.{inside-within}
+use Rattle.laws.specs.Accepting.{AcceptedEdges}
 use Rattle.laws.specs.Parts.{by-parts, cells-and-or}
-use Rattle.expression_laws.specs.Meanings.{one-expression, one-value, means-at}
+use Rattle.expression_laws.specs.Meanings.{one-value, means-at}
 use Rattle.expression_laws.specs.Judging.{accepted-says}
 use Rattle.expression_laws.specs.Replace.{Unused}
 use Rattle.expression_laws.specs.Parts.{around, shorter-means, both, and-means, or-means}
-use Rattle.demands.specs.Judging.{AcceptedEdges}
 
 -- ---- edges put at the end of a list
 
@@ -46,7 +46,7 @@ holds-not text e j is = one-value text {h = nothing} (means-at text (e, is) noth
 -- the cells of an accepted call lie in the range
 pub cells-within : (ns : List ℤ) (text : List ℕ) (e : Expr) → AcceptedEdges 7 limit ns → Judged text (accepted 0) → Is sum text e → Within limit (cellsOf ns e)
 unfolding cellsOf
-cells-within ns text e a j is = inside-within 7 limit (λ h. eval h e) (holds-not text e j is) (edgesOf ns) (a .sound) (a .closed)
+cells-within ns text e a j is = inside-within 7 limit (λ h. eval h e) (holds-not text e j is) (edgesOf ns) (a .list .sound) (a .closed)
 
 module _ (ns : List ℤ) (a : AcceptedEdges 7 limit ns) (x : ℕ) (below : x ≤ 7) (pre part post : List ℕ) (free : Unused x (around pre part post)) (new : All (λ e. on x e ≡ false) (edgesOf ns))
     (ok-part : Judged part (accepted 0)) where
@@ -54,7 +54,7 @@ module _ (ns : List ℤ) (a : AcceptedEdges 7 limit ns) (x : ℕ) (below : x ≤
       → recordsOf (ns ++ edgeNumbers (putIn x (recordsOf ns p))) s ≡ recordsOf ns e
   unfolding recordsOf cellsOf
   whole-by-parts e p s is-whole is-part is-short =
-      ap (λ (es : List (Edge ℤ)). result limit (inside (λ h. eval h s) es)) (edges-beside ns (putIn x (recordsOf ns p)) (a .fours))
+      ap (λ (es : List (Edge ℤ)). result limit (inside (λ h. eval h s) es)) (edges-beside ns (putIn x (recordsOf ns p)) (a .list .fours))
       ∙ ap (result limit) (by-parts x limit (λ h. eval h s) (λ h. eval h p) (edgesOf ns) new (cells-within ns part p a ok-part is-part))
       ∙ ap (λ (holds : Handed → Bool). result limit (inside holds (edgesOf ns))) (fun-ext same)
     where

@@ -1,53 +1,25 @@
 -- The rows of run and area, each from what shows it. Assumes nothing.
 --
---   edges-pass, edges-open     an accepted edge list passes 1 to 5; a sound list that is not closed is 5
 --   call-stops, call-text, call-passes   refusals 1 to 9: from those of the edges, then from those of the text
 --   run-refused, run-short, run-written  the outcome of a run
 --   area-refused, area-given             the answer of the area call
-use mathlib.Core.Path.{_≡_, refl, sym, ap, _∙_, subst}
-use mathlib.Core.Bool.{Bool, true, false, true≢false}
-use mathlib.Core.Logic.{_⊎_, inl, inr}
+use mathlib.Core.Path.{_≡_, refl, ap, subst}
+use mathlib.Core.Logic.{inl, inr}
 use mathlib.Core.List.{List, [], _∷_, _++_, map, append-nil}
-use Prim.Native.Nat.{ℕ, suc, _*_, _/_, _%_, _≤_, _<_}
+use Prim.Native.Nat.{ℕ, _*_, _≤_, _<_}
 use native.Mathlib.Omega.{arith}
 use lib.IntN.{ℤ}
 use lib.ListN.{length, drop}
 use Rattle.meaning.specs.Numbers.{limit}
-use Rattle.meaning.specs.Answers.{Answer, accepted, Row, given, First, not-fours, too-many-edges, out-of-range, from-equals-to, not-closed, too-little-room}
-use Rattle.meaning.specs.Edges.{Edge, edgesOf, Closed, soundEdge, flat, recordRows, edgeRows}
+use Rattle.meaning.specs.Answers.{Answer, accepted, Row, First, too-little-room}
+use Rattle.meaning.specs.Edges.{edgeRows}
 use Rattle.meaning.specs.Expression.{Expr, sum, Is, refusals, Judged}
 use Rattle.meaning.specs.Records.{numbersOf}
 use Rattle.meaning.specs.Calls.{recordsOf, areaOf, Outcome, outcome, unchanged, callRows, Short, Written, Runs, Areas}
-use Rattle.basics.specs.Lists.{All}
-use Rattle.basics.specs.Tables.{not-given, Silent, silent-append, first-stops, first-passes}
-use Rattle.laws.specs.Covered.{Sound}
+use Rattle.basics.specs.Tables.{Silent, silent-append, first-stops, first-passes}
+use Rattle.laws.specs.Accepting.{Passed, edges-silent}
 use Rattle.expression_laws.specs.Meanings.{one-expression}
-use Rattle.demands.specs.Judging.{AcceptedEdges, edges-silent, text-silent}
-
-abbrev pub Passed : Row Answer
-Passed r = r ≡ accepted 0
-
--- ---- edges
-
-records-pass : (top L k : ℕ) (es : List (Edge ℤ)) (more : List (Row Answer)) (Last : Row Answer) (a : Answer) → Sound top L es → All (λ e. flat e ≡ false) es
-    → First more Last a → First (recordRows top L k es ++ more) Last a
-records-pass top L k [] more Last a s f x = x
-records-pass top L k (e ∷ es) more Last a s f x =
-    inr (not-given (out-of-range k) (λ h. true≢false (sym (s .0) ∙ h)), inr (not-given (from-equals-to k) (λ h. true≢false (sym h ∙ f .0)), records-pass top L (suc k) es more Last a (s .1) (f .1) x))
-
-module _ (top L : ℕ) (ns : List ℤ) (fours : length ns % 4 ≡ 0) (few : length ns / 4 ≤ 4096) (sound : Sound top L (edgesOf ns)) (sloping : All (λ e. flat e ≡ false) (edgesOf ns)) where
-  front : (a : Answer) → First (given (Closed (edgesOf ns) → ⊥) not-closed ∷ []) Passed a → First (edgeRows top L ns) Passed a
-  front a x =
-      inr (not-given not-fours (λ h. h fours), inr (not-given too-many-edges (λ h. omega arith), records-pass top L 0 (edgesOf ns) (given (Closed (edgesOf ns) → ⊥) not-closed ∷ []) Passed a sound sloping x))
-
-  pub edges-open : (Closed (edgesOf ns) → ⊥) → First (edgeRows top L ns) Passed not-closed
-  edges-open h = front not-closed (inl (h, refl))
-
-  pub edges-closed : Closed (edgesOf ns) → First (edgeRows top L ns) Passed (accepted 0)
-  edges-closed h = front (accepted 0) (inr (not-given not-closed (λ n. n h), refl))
-
-pub edges-pass : (top L : ℕ) (ns : List ℤ) → AcceptedEdges top L ns → First (edgeRows top L ns) Passed (accepted 0)
-edges-pass top L ns a = edges-closed top L ns (a .fours) (a .few) (a .sound) (a .sloping) (a .closed)
+use Rattle.demands.specs.Judging.{call-silent}
 
 -- ---- refusals 1 to 9
 
@@ -58,9 +30,6 @@ module _ (ns : List ℤ) (text : List ℕ) where
   pub call-text : (a : Answer) → First (edgeRows 7 limit ns) Passed (accepted 0) → Judged text a → First (callRows ns text) Passed a
   unfolding Judged
   call-text a x j = first-passes (edgeRows 7 limit ns) (refusals text) Passed Passed (accepted 0) a x (edges-silent 7 limit ns 0) j
-
-  call-silent : Silent (accepted 0) (callRows ns text)
-  call-silent = silent-append (accepted 0) (edgeRows 7 limit ns) (refusals text) (edges-silent 7 limit ns 0) (text-silent text 0)
 
   -- ---- run
 
@@ -82,12 +51,12 @@ module _ (ns : List ℤ) (text : List ℕ) where
     module _ (x : First (callRows ns text) Passed (accepted 0)) (e : Expr) (is : Is sum text e) where
       pub run-short : length out < 4 * length (recordsOf ns e) → Runs ns text out (outcome (too-little-room (length (recordsOf ns e))) out)
       unfolding Runs
-      run-short h = lift-passes (callRows ns text) (Short ns text out ∷ []) (Written ns text out) _ x call-silent (inl (e, is, h, refl))
+      run-short h = lift-passes (callRows ns text) (Short ns text out ∷ []) (Written ns text out) _ x (call-silent ns text 0) (inl (e, is, h, refl))
 
       pub run-written : 4 * length (recordsOf ns e) ≤ length out
           → Runs ns text out (outcome (accepted (length (recordsOf ns e))) (numbersOf (recordsOf ns e) ++ drop (4 * length (recordsOf ns e)) out))
       unfolding Runs
-      run-written h = lift-passes (callRows ns text) (Short ns text out ∷ []) (Written ns text out) _ x call-silent (inr (long, (e, is, refl)))
+      run-written h = lift-passes (callRows ns text) (Short ns text out ∷ []) (Written ns text out) _ x (call-silent ns text 0) (inr (long, (e, is, refl)))
         where
           long : (o : Outcome) → Short ns text out o → ⊥
           long o s = let q = one-expression text (s .1) is in omega (arith, s .2, ap (λ (z : Expr). length (recordsOf ns z)) q)
@@ -104,4 +73,4 @@ module _ (ns : List ℤ) (text : List ℕ) where
   unfolding Areas
   area-given x e is =
       subst (λ (rows : List (Row Answer)). First rows (λ a. (e : Expr) × Is sum text e × (a ≡ accepted (areaOf ns e))) (accepted (areaOf ns e))) (append-nil (callRows ns text))
-      (first-passes (callRows ns text) [] Passed (λ a. (e : Expr) × Is sum text e × (a ≡ accepted (areaOf ns e))) (accepted 0) (accepted (areaOf ns e)) x call-silent (e, is, refl))
+      (first-passes (callRows ns text) [] Passed (λ a. (e : Expr) × Is sum text e × (a ≡ accepted (areaOf ns e))) (accepted 0) (accepted (areaOf ns e)) x (call-silent ns text 0) (e, is, refl))

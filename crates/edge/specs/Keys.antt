@@ -2,8 +2,8 @@
 --
 --   Keyed z r                 r is the key of z, a 32-bit number
 --   layer-key, coordinate-key the tests of a sound edge, by keys
---   SoundParts, sound-parts, number-in   what a sound edge's numbers are
---   layer-above, layer-is, layer-low   a layer is its key, less 2^31
+--   number-in                 the coordinates of a sound edge are in range, number by number
+--   layer-above, layer-is     a layer is its key, less 2^31
 --   coordinate-above, lift-is a coordinate moved up by 2^30 is its key, less 2^30
 use mathlib.Core.Path.{_≡_, refl, sym, ap₂, _∙_}
 use mathlib.Core.Bool.{true, _&&_, false≢true}
@@ -15,11 +15,12 @@ use lib.Signed.{mag, leZ}
 use mathlib.Core.List.{List}
 use borrow.Author.Tests.{leb-true, le-leb}
 use Rattle.meaning.specs.Numbers.{limit, inRange}
-use Rattle.meaning.specs.Edges.{edge, soundEdge}
-use Rattle.basics.specs.Tests.{and-left, and-right, and-on, leb-same}
+use Rattle.meaning.specs.Edges.{soundEdge}
+use Rattle.basics.specs.Tests.{and-on, leb-same}
 use Rattle.basics.specs.Signed.{keyOf, le-key}
 use Rattle.basics.specs.Steps.{lift}
 use Rattle.basics.specs.Fours.{part, edgeAt}
+use Rattle.basics.specs.Sound.{SoundParts, sound-parts}
 
 pub record Keyed (z : ℤ) (r : ℕ) : Type 0 where
   pub is : r ≡ keyOf z
@@ -37,28 +38,6 @@ coordinate-key z r K = rw (K .is) (go z (K .word))
     go (negsuc n) h =
         ap₂ _&&_ (leb-same 1073741824 (2147483648 - suc n) (suc n) 1073741824 (λ e. omega arith) (λ e. omega arith)) (le-leb (2147483648 - suc n) 3221225472 (omega arith)) ∙ and-on (leb (suc n) 1073741824)
 
-pub record SoundParts (top L : ℕ) (l y f t : ℤ) : Type 0 where
-  pub natural : leZ (pos 0) l ≡ true
-  pub low : leZ l (pos top) ≡ true
-  pub y-in : inRange L y ≡ true
-  pub from-in : inRange L f ≡ true
-  pub to-in : inRange L t ≡ true
-
-pub sound-parts : (top L : ℕ) (l y f t : ℤ) → soundEdge top L (edge l y f t) ≡ true → SoundParts top L l y f t
-unfolding soundEdge
-sound-parts top L l y f t e =
-    let a = and-left (leZ (pos 0) l && leZ l (pos top)) (inRange L y && (inRange L f && inRange L t)) e in
-    let b = and-right (leZ (pos 0) l && leZ l (pos top)) (inRange L y && (inRange L f && inRange L t)) e in
-    let c = and-right (inRange L y) (inRange L f && inRange L t) b in
-    record {
-      natural = and-left (leZ (pos 0) l) (leZ l (pos top)) a;
-      low = and-right (leZ (pos 0) l) (leZ l (pos top)) a;
-      y-in = and-left (inRange L y) (inRange L f && inRange L t) b;
-      from-in = and-left (inRange L f) (inRange L t) c;
-      to-in = and-right (inRange L f) (inRange L t) c;
-    }
-
--- its three coordinates, number by number
 pub number-in : (ns : List ℤ) (k j : ℕ) → soundEdge 7 limit (edgeAt ns k) ≡ true → 0 < j → j < 4 → inRange limit (part ns k j) ≡ true
 unfolding edgeAt
 number-in ns k j e h l = go j h l (sound-parts 7 limit (part ns k 0) (part ns k 1) (part ns k 2) (part ns k 3) e)
@@ -80,10 +59,6 @@ module _ (z : ℤ) (r : ℕ) (K : Keyed z r) (natural : leZ (pos 0) z ≡ true) 
 
   pub layer-is : r - 2147483648 ≡ natAbs z
   layer-is = omega (arith, K .is, natural-key z natural)
-
-pub layer-low : (z : ℤ) (top : ℕ) → leZ (pos 0) z ≡ true → leZ z (pos top) ≡ true → natAbs z ≤ top
-layer-low (pos n) top h l = leb-true n top l
-layer-low (negsuc n) top h l = absurd (false≢true h)
 
 module _ (z : ℤ) (r : ℕ) (K : Keyed z r) (inside : inRange limit z ≡ true) where
   coordinate-is : (z : ℤ) → inRange limit z ≡ true → (1073741824 ≤ keyOf z) × (keyOf z - 1073741824 ≡ lift limit z)

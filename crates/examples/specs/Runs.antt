@@ -7,7 +7,7 @@
 use mathlib.Core.Path.{_≡_, refl, sym, ap, _∙_, subst}
 use mathlib.Core.Bool.{Bool, true, false, not, _&&_}
 use mathlib.Core.List.{List, [], _∷_, _++_}
-use Prim.Native.Nat.{ℕ, _+_, _*_, _/_, _%_, _≤_, _<_}
+use Prim.Native.Nat.{ℕ, _+_, _*_, _/_, _%_, _≤_}
 use native.Mathlib.Omega.{arith}
 use native.Mathlib.Nat.{le-refl}
 use lib.Dec.{leb, eqb}
@@ -18,17 +18,18 @@ use Rattle.meaning.specs.Numbers.{limit}
 use Rattle.meaning.specs.Answers.{Answer, accepted, First, not-closed}
 use Rattle.meaning.specs.Edges.{Edge, edgesOf, west, east, on, number, Closed, flat, edgeRows}
 use Rattle.meaning.specs.Expression.{Expr, eval, sum, Is, Judged}
-use Rattle.meaning.specs.Cells.{inside}
-use Rattle.meaning.specs.Records.{Record, result, numbersOf}
+use Rattle.meaning.specs.Records.{numbersOf}
 use Rattle.meaning.specs.Calls.{cellsOf, recordsOf, areaOf, outcome, callRows, Runs, Areas}
 use Rattle.basics.specs.Tests.{and-left, and-right}
 use Rattle.basics.specs.Lists.{All}
+use Rattle.basics.specs.Sound.{Sound, SoundList}
 use Rattle.basics.specs.Sums.{sumOf}
 use Rattle.grid.specs.AreaLaws.{plus, minus}
 use Rattle.expression_laws.specs.Reader.{got, a-sum, reads}
 use Rattle.expression_laws.specs.Meanings.{read-whole}
 use Rattle.expression_laws.specs.Judging.{answerTo, answerTo-right}
-use Rattle.demands.specs.Rows.{Passed, edges-closed, edges-open, call-stops, call-text, run-refused, run-written, area-refused, area-given}
+use Rattle.laws.specs.Accepting.{Passed, edges-open, edges-pass, refused}
+use Rattle.demands.specs.Rows.{call-stops, call-text, run-refused, run-written, area-refused, area-given}
 use Rattle.examples.specs.Shown.{sound, fit, shown, levels, all-sound, fit-sound, fit-closed, result-shown, cells-shown}
 
 unfoldable pub sloping : List (Edge ℤ) → Bool
@@ -56,6 +57,9 @@ module _ (ns : List ℤ) (h : shaped ns ≡ true) where
   unfolding shaped
   few = leb-true (length ns / 4) 4096 (and-left (leb (length ns / 4) 4096) _ (and-right (eqb (length ns % 4) 0) _ h))
 
+  list : Sound 7 limit (edgesOf ns) → SoundList 7 limit ns
+  list s = record { fours = fours; few = few; sound = s }
+
   none-flat : All (λ e. flat e ≡ false) (edgesOf ns)
   unfolding shaped
   none-flat = all-sloping (edgesOf ns) (and-right (leb (length ns / 4) 4096) _ (and-right (eqb (length ns % 4) 0) _ h))
@@ -64,21 +68,17 @@ module _ (ns : List ℤ) (h : shaped ns ≡ true) where
       → (text : List ℕ) → ((out : List ℤ) → Runs ns text out (outcome not-closed out)) × Areas ns text not-closed
   unfolding Closed
   open-is s c i n text =
-      let x = call-stops ns text not-closed (edges-open 7 limit ns fours few (all-sound (edgesOf ns) s) none-flat (λ k. n (k c i))) (other not-closed (λ z. omega arith)) in
-      ((λ out. run-refused ns text out not-closed x (other not-closed (λ z. omega arith))), area-refused ns text not-closed x (other not-closed (λ z. omega arith)))
-    where
-      other : (a : Answer) → (a .number ≡ 0 → ⊥) → a ≡ accepted 0 → ⊥
-      other a f e = f (ap (λ (r : Answer). r .number) e)
+      let x = call-stops ns text not-closed (edges-open 7 limit ns (list (all-sound (edgesOf ns) s)) none-flat (λ k. n (k c i))) (refused not-closed 0 (λ z. omega arith)) in
+      ((λ out. run-refused ns text out not-closed x (refused not-closed 0 (λ z. omega arith))), area-refused ns text not-closed x (refused not-closed 0 (λ z. omega arith)))
 
   module _ (fits : fit (edgesOf ns) ≡ true) (text : List ℕ) where
     edges : First (edgeRows 7 limit ns) Passed (accepted 0)
-    edges = edges-closed 7 limit ns fours few (fit-sound (edgesOf ns) fits) none-flat (fit-closed (edgesOf ns) fits)
+    edges = edges-pass 7 limit ns (record { list = list (fit-sound (edgesOf ns) fits); sloping = none-flat; closed = fit-closed (edgesOf ns) fits })
 
     pub refusal-is : (a : Answer) → answerTo text ≡ a → (a .number ≡ 0 → ⊥) → ((out : List ℤ) → Runs ns text out (outcome a out)) × Areas ns text a
     refusal-is a e f =
-        let n : a ≡ accepted 0 → ⊥ = λ q. f (ap (λ (r : Answer). r .number) q) in
         let x = call-text ns text a edges (subst (Judged text) e (answerTo-right text)) in
-        ((λ out. run-refused ns text out a x n), area-refused ns text a x n)
+        ((λ out. run-refused ns text out a x (refused a 0 f)), area-refused ns text a x (refused a 0 f))
 
     module _ (e : Expr) (r : reads text a-sum 0 ≡ got e (length text)) (ok : answerTo text ≡ accepted 0) (empty : eval (λ c. false) e ≡ false) where
       is : Is sum text e

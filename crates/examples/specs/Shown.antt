@@ -7,34 +7,35 @@
 --   result-shown        the result is what the places show
 --   cells-shown         and its cells are what the horizontals so found add up to
 --   fit-closed, fit-sound   what the test says
-use mathlib.Core.Path.{_≡_, refl, sym, ap, ap₂, _∙_}
+use mathlib.Core.Path.{_≡_, ap, _∙_}
 use mathlib.Core.Bool.{Bool, true, false, _&&_}
-use mathlib.Core.List.{List, [], _∷_, _++_, map}
-use Prim.Native.Nat.{ℕ, zero, suc, _+_, _*_}
+use mathlib.Core.List.{List, [], _∷_, map}
+use Prim.Native.Nat.{ℕ, _+_, _*_}
 use native.Mathlib.Omega.{arith}
 use lib.Dec.{leb}
 use lib.IntN.{ℤ}
 use Rattle.meaning.specs.Numbers.{limit}
-use Rattle.meaning.specs.Edges.{Edge, edge, edgesOf, Closed, soundEdge}
+use Rattle.meaning.specs.Edges.{Edge, Closed, soundEdge}
 use Rattle.meaning.specs.Cells.{inside, Within}
-use Rattle.meaning.specs.Records.{Record, rec, result}
+use Rattle.meaning.specs.Records.{Record, result}
 use Rattle.meaning.specs.Area.{cells}
 use Rattle.basics.specs.Tests.{and-left, and-right}
-use Rattle.basics.specs.Lists.{All}
+use Rattle.basics.specs.Sound.{Sound, lifted}
 use Rattle.grid.specs.Plane.{insideN, levelN, kindN, kindAt, resultN, resultAt, xsOf, ysOf, sorted, ClosedN}
 use Rattle.grid.specs.Compression.{result-sorted, levels-sorted}
 use Rattle.grid.specs.ClosedTest.{allBy, closedTest, closed-by, within-all}
 use Rattle.basics.specs.Sums.{sumOf}
-use Rattle.grid.specs.AreaLaws.{cellsN, plus, minus, area}
-use Rattle.laws.specs.View.{view, lowered, result-view, cells-view, within-bounded}
-use Rattle.laws.specs.Covered.{Sound, liftEdge, inside-view, view-closed, inside-within}
+use Rattle.basics.specs.Steps.{lowered}
+use Rattle.grid.specs.AreaLaws.{plus, minus, area}
+use Rattle.laws.specs.View.{view, result-view, cells-view, within-bounded}
+use Rattle.laws.specs.Covered.{inside-view, view-closed, inside-within}
 
 unfoldable pub sound : List (Edge ℤ) → Bool
 sound [] = true
 sound (e ∷ es) = soundEdge 7 limit e && sound es
 
 abbrev pub stepsOf : List (Edge ℤ) → List (Edge ℕ)
-stepsOf es = map (liftEdge limit) es
+stepsOf es = map (lifted limit) es
 
 unfoldable pub fit : List (Edge ℤ) → Bool
 fit es = sound es && (closedTest (stepsOf es) && (allBy (λ p. leb p (2 * limit)) (xsOf (stepsOf es)) && allBy (λ p. leb p (2 * limit)) (ysOf (stepsOf es))))

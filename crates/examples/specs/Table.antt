@@ -6,11 +6,9 @@
 --   table      the examples, to the letter; where one names no edge list it takes A and B, where it names no expression `a`
 --   checked    EVERY EXAMPLE IS RIGHT
 use mathlib.Core.Path.{_≡_, refl}
-use mathlib.Core.Bool.{Bool, true, false, _&&_}
 use mathlib.Core.List.{List, [], _∷_, _++_}
 use Prim.Native.Nat.{ℕ, _*_, _≤_}
 use native.Mathlib.Omega.{arith}
-use lib.Dec.{lit<}
 use lib.Ieee.{binary32, toBits}
 use lib.IntN.{ℤ, pos}
 use lib.ListN.{length, drop}
@@ -25,6 +23,7 @@ use Rattle.meaning.specs.Calls.{outcome, Runs, Areas}
 use Rattle.basics.specs.Tests.{spans}
 use Rattle.basics.specs.Lists.{All}
 use Rattle.basics.specs.Steps.{lift}
+use Rattle.basics.specs.Sound.{lifted}
 use Rattle.grid.specs.Plane.{goesWest, goesEast, upToN, westsN, eastsN, coversN, insideN, levelN, uprightN, lineAt, lineOver, eachOf, kindAt, resultAt, xsOf, ysOf, insertIf, insert, sorted}
 use Rattle.grid.specs.ClosedTest.{allBy, closedTest, closedOver, layersOf}
 use Rattle.basics.specs.Sums.{sumOf}
@@ -32,7 +31,6 @@ use Rattle.expression_laws.specs.Reader.{letterAt, read, reads}
 use Rattle.expression_laws.specs.Judging.{answerTo}
 use Rattle.maskcalls.specs.Examples.{stored-100, stored-limit, bytes-80-00, file-01, empty-file}
 use Rattle.drawing.specs.Drawing.{Drawing}
-use Rattle.drawing.specs.declared.Floats.{Floats}
 use Rattle.drawing.specs.declared.Drawn.{Drawn}
 use Rattle.drawing.specs.declared.Drawn.the-variants.{Level, Upright, Refused}
 use Rattle.drawing.proofs.Examples.{carried, example-10}
@@ -124,7 +122,7 @@ table =
     ∷ []
 
 pub checked : All Right table
-unfolding bytes fit sound soundEdge flat sloping shaped edgesOf closedTest closedOver layersOf allBy xsOf ysOf lift number goesWest goesEast spans on west east shown levels numbersOf step upToN westsN eastsN coversN covers insideN levelN uprightN lineAt lineOver eachOf kindAt resultAt insertIf insert sorted eqZ sumOf answerTo reads read letterAt eval
+unfolding bytes fit sound soundEdge flat sloping shaped edgesOf closedTest closedOver layersOf allBy xsOf ysOf lifted lift number goesWest goesEast spans on west east shown levels numbersOf step upToN westsN eastsN coversN covers insideN levelN uprightN lineAt lineOver eachOf kindAt resultAt insertIf insert sorted eqZ sumOf answerTo reads read letterAt eval
 checked = (
   (run-is both refl refl (bytes "a*b") _ refl refl refl _ _ refl refl, area-is both refl refl (bytes "a*b") _ refl refl refl _ refl),
   (

@@ -1,6 +1,6 @@
 -- The area by a wrapping sum: adding and taking away modulo 2^64, in any order of records, ends at the number of cells.
 use mathlib.Core.Path.{_≡_, sym, ap, _∙_}
-use mathlib.Core.Bool.{Bool, true, false}
+use mathlib.Core.Bool.{Bool, false}
 use Prim.Native.Nat.{ℕ, zero, suc, _+_, _-_, _*_, _%_, _^_, _≤_, _<_}
 use native.Mathlib.Omega.{arith}
 use native.Mathlib.Nat.{mul-le-mul, mod-add-mod}
@@ -8,6 +8,7 @@ use Rattle.meaning.specs.Numbers.{bit}
 use Rattle.meaning.specs.Area.{total}
 use Rattle.grid.specs.Plane.{levelN, kindN}
 use Rattle.basics.specs.Sums.{sumOf}
+use Rattle.basics.specs.Tests.{bit-le}
 use Rattle.grid.specs.AreaLaws.{plus, minus, cellsN, area}
 
 -- acc is P less M, modulo 2^64
@@ -36,10 +37,6 @@ total-le : (f : ℕ → ℕ) (b a n : ℕ) → ((k : ℕ) → f k ≤ b) → tot
 unfolding total
 total-le f b a zero h = omega arith
 total-le f b a (suc n) h = omega (arith, h a, total-le f b (suc a) n h)
-
-bit-le : (b : Bool) → bit b ≤ 1
-bit-le true = omega arith
-bit-le false = omega arith
 
 pub cells-le : (N : ℕ) (g : ℕ → ℕ → Bool) → cellsN N g ≤ N * N
 unfolding cellsN

@@ -15,9 +15,8 @@ use mathlib.Core.List.{List}
 use Prim.Native.Nat.{ℕ, _+_, _*_, _/_, _%_, _<_, _≤_}
 use lib.Dec.{leb, eqb}
 use lib.ListN.{length, getD, take}
-use Rattle.meaning.specs.Numbers.{bit}
+use Rattle.meaning.specs.Numbers.{bit, pick}
 use Rattle.basics.specs.Sums.{sumOf}
-use Rattle.sums.specs.Sums.{where-true}
 
 abbrev pub keyOf : ℕ → ℕ → ℕ → ℕ → ℕ
 keyOf p q l w = p * 131072 + q * 16 + l * 2 + w
@@ -39,7 +38,7 @@ marked w l k = eqb (layerOf k) l && eqb (wayOf k) w
 
 -- 1 where k is such a corner at or below row r
 unfoldable pub hit : ℕ → ℕ → ℕ → ℕ → ℕ
-hit w l r k = where-true (leb (minorOf k) r) (bit (marked w l k))
+hit w l r k = pick (leb (minorOf k) r) (bit (marked w l k)) 0
 
 unfoldable pub passed : List ℕ → ℕ → ℕ → ℕ → ℕ → ℕ
 passed ks w l r e = sumOf (hit w l r) (take e ks)

@@ -13,9 +13,8 @@ use lib.Dec.{leb}
 use lib.ListN.{length, getD, take}
 use lib.Seq.{length-take-le}
 use borrow.Author.Tests.{le-leb, lt-leb}
-use Rattle.meaning.specs.Numbers.{bit}
+use Rattle.meaning.specs.Numbers.{bit, pick}
 use Rattle.basics.specs.Sums.{sumOf}
-use Rattle.sums.specs.Sums.{where-true}
 use Rattle.sums.specs.Laws.{sum-take, sum-le}
 use Rattle.keys.specs.Key.{keyOf, majorOf, minorOf, layerOf, wayOf, marked, hit, passed, ByPoint}
 
@@ -75,7 +74,7 @@ hit-le : (w l r k : ℕ) → hit w l r k ≤ 1
 unfolding hit
 hit-le w l r k = go (leb (minorOf k) r) (marked w l k)
   where
-    go : (a b : Bool) → where-true a (bit b) ≤ 1
+    go : (a b : Bool) → pick a (bit b) 0 ≤ 1
     go true true = omega arith
     go true false = omega arith
     go false b = omega arith

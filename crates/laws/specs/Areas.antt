@@ -18,10 +18,11 @@ use Rattle.basics.specs.Lists.{All}
 use Rattle.basics.specs.Signed.{minus-sub, sub-pos, sub-neg, sub-same}
 use Rattle.grid.specs.Plane.{recordAt, levelN, kindN}
 use Rattle.basics.specs.Sums.{sumOf}
+use Rattle.basics.specs.Steps.{lowered}
 use Rattle.grid.specs.Sums.{total-same, total-swap}
 use Rattle.grid.specs.AreaLaws.{Additive, sum-kind, east, west, stepN, climb, plus, minus, cellsN, area}
 use Rattle.grid.specs.Wrap.{cells-le}
-use Rattle.laws.specs.View.{view, lowered, levels-view, within-bounded, cells-view}
+use Rattle.laws.specs.View.{view, levels-view, within-bounded, cells-view}
 use Rattle.laws.specs.Parts.{Kind0, kind-zero}
 
 -- ---- differences of naturals

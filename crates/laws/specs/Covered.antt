@@ -1,7 +1,6 @@
 -- Cells of an edge list, over whole numbers and in steps. Assumes nothing.
 --
---   Sound top L es      every edge has a layer up to top and coordinates for its numbers
---   lifted L e          an edge in steps
+--   low, high           a coordinate lies above every number below the range, and below every one above it
 --   wests-view, easts-view   counts agree
 --   inside-view         THE CELLS: those of the list are those of its edges in steps
 --   closed-view, view-closed   a list is closed exactly when it is in steps
@@ -9,134 +8,92 @@
 --   inside-within       NOTHING OUTSIDE: a sound, closed list has no inside cell outside the range, where the expression does not hold of nothing
 --   same-columns, same-rows    WHERE TO LOOK: counts change only at the ends of edges, and at their y
 use mathlib.Core.Path.{_≡_, refl, sym, ap, ap₂, _∙_, fun-ext}
-use mathlib.Core.Bool.{Bool, true, false, not, _&&_, false≢true, true≢false}
+use mathlib.Core.Bool.{Bool, true, false, _&&_}
 use mathlib.Core.Logic.{_⊎_, inl, inr}
-use mathlib.Core.List.{List, [], _∷_, _++_, map}
-use Prim.Native.Nat.{ℕ, zero, suc, _+_, _*_, _≤_}
+use mathlib.Core.List.{List, map}
+use Prim.Native.Nat.{ℕ, _*_}
 use native.Mathlib.Omega.{arith}
-use native.Mathlib.Decide.{decLt}
-use lib.Dec.{eqb, leb, ltb}
-use lib.IntN.{ℤ, pos, negsuc, natAbs, negℤ, _-ℤ_}
+use lib.IntN.{ℤ, pos, negℤ, _-ℤ_}
 use lib.Signed.{leZ, ltZ}
 use borrow.Author.Tests.{le-leb}
-use Rattle.meaning.specs.Numbers.{bit, eqZ, inRange, step}
+use Rattle.meaning.specs.Numbers.{inRange, step}
 use Rattle.meaning.specs.Edges.{Edge, edge, west, east, on, upTo, number, wests, easts, count, covers, Closed, soundEdge}
 use Rattle.meaning.specs.Cells.{inside, Within}
-use Rattle.basics.specs.Tests.{and-left, and-right, and-off, and-on, spans}
+use Rattle.basics.specs.Tests.{and-off, and-on, spans}
 use Rattle.basics.specs.Lists.{All, all-map, number-same, number-none, number-to-map}
-use Rattle.basics.specs.Signed.{not-leZ, lt-le-trans, le-trans-leZ, lt-not-le, le-not-lt, lt-le}
-use Rattle.basics.specs.Steps.{lift, step-lt, step-le, step-lift, lift-le, beyond}
+use Rattle.basics.specs.Signed.{eqZ-natural, not-leZ, lt-le-trans, le-trans-leZ, lt-not-le, le-not-lt, lt-le}
+use Rattle.basics.specs.Steps.{lift, step-le, step-lift, lift-le, le-lift, lt-lift, beyond}
+use Rattle.basics.specs.Sound.{Sound, sound-parts, lifted}
 use Rattle.grid.specs.Plane.{goesWest, goesEast, upToN, westsN, eastsN, coversN, insideN, ClosedN}
 use Rattle.grid.specs.Covering.{covers-none}
 use Rattle.laws.specs.View.{view, first-step, last-is}
 
-abbrev pub Sound : ℕ → ℕ → List (Edge ℤ) → Type 0
-Sound top L es = All (λ e. soundEdge top L e ≡ true) es
+-- ---- coordinates beside numbers outside the range
 
-abbrev pub liftEdge : ℕ → Edge ℤ → Edge ℕ
-liftEdge L (edge l y f t) = edge (natAbs l) (lift L y) (lift L f) (lift L t)
+pub low : (L : ℕ) (z k : ℤ) → inRange L z ≡ true → ltZ k (negℤ (pos L)) ≡ true → leZ z k ≡ false
+low L z k h u =
+    lt-not-le k z (lt-le-trans k (step L 0) z (ap (ltZ k) (first-step L) ∙ u)
+    (ap (leZ (step L 0)) (sym (step-lift L z h)) ∙ step-le L 0 (lift L z) ∙ le-leb 0 (lift L z) (omega arith)))
 
--- ---- one sound edge
-
-pub record Parts (top L : ℕ) (l y f t : ℤ) : Type 0 where
-  pub layer : l ≡ pos (natAbs l)
-  pub layer-le : leZ l (pos top) ≡ true
-  pub y-in : inRange L y ≡ true
-  pub from-in : inRange L f ≡ true
-  pub to-in : inRange L t ≡ true
-
-pub sound-parts : (top L : ℕ) (l y f t : ℤ) → soundEdge top L (edge l y f t) ≡ true → Parts top L l y f t
-unfolding soundEdge
-sound-parts top L l y f t h =
-    let a = and-left (leZ (pos 0) l && leZ l (pos top)) (inRange L y && (inRange L f && inRange L t)) h in
-    let b = and-right (leZ (pos 0) l && leZ l (pos top)) (inRange L y && (inRange L f && inRange L t)) h in
-    let c = and-right (inRange L y) (inRange L f && inRange L t) b in
-    record {
-      layer = natural l (and-left (leZ (pos 0) l) (leZ l (pos top)) a);
-      layer-le = and-right (leZ (pos 0) l) (leZ l (pos top)) a;
-      y-in = and-left (inRange L y) (inRange L f && inRange L t) b;
-      from-in = and-left (inRange L f) (inRange L t) c;
-      to-in = and-right (inRange L f) (inRange L t) c;
-    }
-  where
-    natural : (z : ℤ) → leZ (pos 0) z ≡ true → z ≡ pos (natAbs z)
-    natural (pos n) e = refl
-    natural (negsuc n) e = absurd (false≢true e)
+pub high : (L : ℕ) (z k : ℤ) → inRange L z ≡ true → leZ (pos L) k ≡ true → leZ z k ≡ true
+high L z k h u =
+    le-trans-leZ z (pos L) k
+    (ap₂ leZ (sym (step-lift L z h)) (sym (last-is L)) ∙ step-le L (lift L z) (2 * L) ∙ le-leb (lift L z) (2 * L) (lift-le L z h)) u
 
 module _ (top L : ℕ) where
-  le-view : (z : ℤ) (n : ℕ) → inRange L z ≡ true → leZ z (step L n) ≡ leb (lift L z) n
-  le-view z n h = ap (λ (a : ℤ). leZ a (step L n)) (sym (step-lift L z h)) ∙ step-le L (lift L z) n
-
-  lt-view : (n : ℕ) (z : ℤ) → inRange L z ≡ true → ltZ (step L n) z ≡ ltb n (lift L z)
-  lt-view n z h = ap (ltZ (step L n)) (sym (step-lift L z h)) ∙ step-lt L n (lift L z)
-
-  on-view : (c : ℕ) (l : ℤ) → l ≡ pos (natAbs l) → eqZ l (pos c) ≡ eqb (natAbs l) c
-  unfolding eqZ
-  on-view c l h = ap (λ (a : ℤ). eqZ a (pos c)) h
-
-  west-view : (c i : ℕ) (e : Edge ℤ) → soundEdge top L e ≡ true → (on c e && west (step L i) e) ≡ goesWest c i (liftEdge L e)
-  unfolding on west goesWest spans
+  west-view : (c i : ℕ) (e : Edge ℤ) → soundEdge top L e ≡ true → (on c e && west (step L i) e) ≡ goesWest c i (lifted L e)
+  unfolding on west goesWest spans lifted
   west-view c i (edge l y f t) h =
       let p = sound-parts top L l y f t h in
-      ap₂ _&&_ (on-view c l (p .layer)) (ap₂ _&&_ (le-view t i (p .to-in)) (lt-view i f (p .from-in)))
+      ap₂ _&&_ (eqZ-natural l c (p .natural)) (ap₂ _&&_ (le-lift L t i (p .to-in)) (lt-lift L i f (p .from-in)))
 
-  east-view : (c i : ℕ) (e : Edge ℤ) → soundEdge top L e ≡ true → (on c e && east (step L i) e) ≡ goesEast c i (liftEdge L e)
-  unfolding on east goesEast spans
+  east-view : (c i : ℕ) (e : Edge ℤ) → soundEdge top L e ≡ true → (on c e && east (step L i) e) ≡ goesEast c i (lifted L e)
+  unfolding on east goesEast spans lifted
   east-view c i (edge l y f t) h =
       let p = sound-parts top L l y f t h in
-      ap₂ _&&_ (on-view c l (p .layer)) (ap₂ _&&_ (le-view f i (p .from-in)) (lt-view i t (p .to-in)))
+      ap₂ _&&_ (eqZ-natural l c (p .natural)) (ap₂ _&&_ (le-lift L f i (p .from-in)) (lt-lift L i t (p .to-in)))
 
-  up-view : (j : ℕ) (e : Edge ℤ) → soundEdge top L e ≡ true → upTo (step L j) e ≡ upToN j (liftEdge L e)
-  unfolding upTo upToN
-  up-view j (edge l y f t) h = le-view y j (sound-parts top L l y f t h .y-in)
+  up-view : (j : ℕ) (e : Edge ℤ) → soundEdge top L e ≡ true → upTo (step L j) e ≡ upToN j (lifted L e)
+  unfolding upTo upToN lifted
+  up-view j (edge l y f t) h = le-lift L y j (sound-parts top L l y f t h .y-in)
 
   -- ---- lists
 
-  pub wests-view : (es : List (Edge ℤ)) → Sound top L es → (c i j : ℕ) → wests es c (step L i) (step L j) ≡ westsN (map (liftEdge L) es) c i j
+  pub wests-view : (es : List (Edge ℤ)) → Sound top L es → (c i j : ℕ) → wests es c (step L i) (step L j) ≡ westsN (map (lifted L) es) c i j
   unfolding wests westsN
   wests-view es s c i j =
       number-same _ _ es (all-map _ _ es (λ e h. ap₂ _&&_ (west-view c i e h) (up-view j e h)) s)
-      ∙ sym (number-to-map (λ e. goesWest c i e && upToN j e) (liftEdge L) es)
+      ∙ sym (number-to-map (λ e. goesWest c i e && upToN j e) (lifted L) es)
 
-  pub easts-view : (es : List (Edge ℤ)) → Sound top L es → (c i j : ℕ) → easts es c (step L i) (step L j) ≡ eastsN (map (liftEdge L) es) c i j
+  pub easts-view : (es : List (Edge ℤ)) → Sound top L es → (c i j : ℕ) → easts es c (step L i) (step L j) ≡ eastsN (map (lifted L) es) c i j
   unfolding easts eastsN
   easts-view es s c i j =
       number-same _ _ es (all-map _ _ es (λ e h. ap₂ _&&_ (east-view c i e h) (up-view j e h)) s)
-      ∙ sym (number-to-map (λ e. goesEast c i e && upToN j e) (liftEdge L) es)
+      ∙ sym (number-to-map (λ e. goesEast c i e && upToN j e) (lifted L) es)
 
-  pub inside-view : (holds : (ℕ → Bool) → Bool) (es : List (Edge ℤ)) → Sound top L es → view L (inside holds es) ≡ insideN holds (map (liftEdge L) es)
+  pub inside-view : (holds : (ℕ → Bool) → Bool) (es : List (Edge ℤ)) → Sound top L es → view L (inside holds es) ≡ insideN holds (map (lifted L) es)
   unfolding inside insideN count coversN
   inside-view holds es s = fun-ext (λ i. fun-ext (λ j. ap holds (fun-ext (λ c. ap₂ (λ (m n : ℕ). covers (pos m -ℤ pos n)) (wests-view es s c i j) (easts-view es s c i j)))))
 
-  pub wests-column : (es : List (Edge ℤ)) → Sound top L es → (c i : ℕ) → number (λ e. on c e && west (step L i) e) es ≡ number (goesWest c i) (map (liftEdge L) es)
-  wests-column es s c i = number-same _ _ es (all-map _ _ es (λ e h. west-view c i e h) s) ∙ sym (number-to-map (goesWest c i) (liftEdge L) es)
+  pub wests-column : (es : List (Edge ℤ)) → Sound top L es → (c i : ℕ) → number (λ e. on c e && west (step L i) e) es ≡ number (goesWest c i) (map (lifted L) es)
+  wests-column es s c i = number-same _ _ es (all-map _ _ es (λ e h. west-view c i e h) s) ∙ sym (number-to-map (goesWest c i) (lifted L) es)
 
-  pub easts-column : (es : List (Edge ℤ)) → Sound top L es → (c i : ℕ) → number (λ e. on c e && east (step L i) e) es ≡ number (goesEast c i) (map (liftEdge L) es)
-  easts-column es s c i = number-same _ _ es (all-map _ _ es (λ e h. east-view c i e h) s) ∙ sym (number-to-map (goesEast c i) (liftEdge L) es)
+  pub easts-column : (es : List (Edge ℤ)) → Sound top L es → (c i : ℕ) → number (λ e. on c e && east (step L i) e) es ≡ number (goesEast c i) (map (lifted L) es)
+  easts-column es s c i = number-same _ _ es (all-map _ _ es (λ e h. east-view c i e h) s) ∙ sym (number-to-map (goesEast c i) (lifted L) es)
 
-  pub closed-view : (es : List (Edge ℤ)) → Sound top L es → Closed es → ClosedN (map (liftEdge L) es)
+  pub closed-view : (es : List (Edge ℤ)) → Sound top L es → Closed es → ClosedN (map (lifted L) es)
   unfolding Closed ClosedN
   closed-view es s h c i = sym (wests-column es s c i) ∙ h c (step L i) ∙ easts-column es s c i
 
   -- ---- outside the range
 
-  pub low : (z k : ℤ) → inRange L z ≡ true → ltZ k (negℤ (pos L)) ≡ true → leZ z k ≡ false
-  low z k h u =
-      lt-not-le k z (lt-le-trans k (step L 0) z (ap (ltZ k) (first-step L) ∙ u)
-      (ap (leZ (step L 0)) (sym (step-lift L z h)) ∙ step-le L 0 (lift L z) ∙ le-leb 0 (lift L z) (omega arith)))
-
-  high : (z k : ℤ) → inRange L z ≡ true → leZ (pos L) k ≡ true → leZ z k ≡ true
-  high z k h u =
-      le-trans-leZ z (pos L) k
-      (ap₂ leZ (sym (step-lift L z h)) (sym (last-is L)) ∙ step-le L (lift L z) (2 * L) ∙ le-leb (lift L z) (2 * L) (lift-le L z h)) u
-
   -- no edge spans a column outside
   spans-none : (c : ℕ) (i : ℤ) → (ltZ i (negℤ (pos L)) ≡ true) ⊎ (leZ (pos L) i ≡ true) → (e : Edge ℤ) → soundEdge top L e ≡ true → (west i e ≡ false) × (east i e ≡ false)
   unfolding west east
-  spans-none c i (inl u) (edge l y f t) h = let p = sound-parts top L l y f t h in (rw (low t i (p .to-in) u), rw (low f i (p .from-in) u))
+  spans-none c i (inl u) (edge l y f t) h = let p = sound-parts top L l y f t h in (rw (low L t i (p .to-in) u), rw (low L f i (p .from-in) u))
   spans-none c i (inr u) (edge l y f t) h =
       let p = sound-parts top L l y f t h in
-      (rw (le-not-lt f i (high f i (p .from-in) u)) (and-off (leZ t i)), rw (le-not-lt t i (high t i (p .to-in) u)) (and-off (leZ f i)))
+      (rw (le-not-lt f i (high L f i (p .from-in) u)) (and-off (leZ t i)), rw (le-not-lt t i (high L t i (p .to-in) u)) (and-off (leZ f i)))
 
   none-side : (p a b : Bool) → a ≡ false → ((p && a) && b) ≡ false
   none-side true a b e = rw e
@@ -159,16 +116,16 @@ module _ (top L : ℕ) where
       ∙ sym (number-none _ es (all-map _ _ es (λ e q. none-low (on c e && east i e) (upTo j e) (under e q)) s))
     where
       under : (e : Edge ℤ) → soundEdge top L e ≡ true → upTo j e ≡ false
-      under (edge l y f t) q = low y j (sound-parts top L l y f t q .y-in) u
+      under (edge l y f t) q = low L y j (sound-parts top L l y f t q .y-in) u
   outside-even es s h c i j (inr (inr u)) =
       number-same _ _ es (all-map _ _ es (λ e q. all-low (on c e && west i e) (upTo j e) (over e q)) s)
       ∙ h c i
       ∙ sym (number-same _ _ es (all-map _ _ es (λ e q. all-low (on c e && east i e) (upTo j e) (over e q)) s))
     where
       over : (e : Edge ℤ) → soundEdge top L e ≡ true → upTo j e ≡ true
-      over (edge l y f t) q = high y j (sound-parts top L l y f t q .y-in) u
+      over (edge l y f t) q = high L y j (sound-parts top L l y f t q .y-in) u
 
-  pub view-closed : (es : List (Edge ℤ)) → Sound top L es → ClosedN (map (liftEdge L) es) → Closed es
+  pub view-closed : (es : List (Edge ℤ)) → Sound top L es → ClosedN (map (lifted L) es) → Closed es
   unfolding Closed ClosedN
   view-closed es s h c i = go (inRange L i) refl
     where

@@ -3,25 +3,26 @@
 --   fromAt x, toAt x    the edge's from (to) is x
 --   closed-ends         a closed list is closed by ends
 --   ends-closed         CLOSED BY ENDS: a sound list that is closed by ends is closed
-use mathlib.Core.Path.{_≡_, refl, sym, ap, ap₂, _∙_}
-use mathlib.Core.Bool.{Bool, true, false, not, _&&_}
+use mathlib.Core.Path.{_≡_, refl, sym, _∙_}
+use mathlib.Core.Bool.{Bool, true, false, _&&_}
 use mathlib.Core.List.{List, [], _∷_, map}
 use Prim.Native.Nat.{ℕ, zero, suc, _+_, _≤_}
 use native.Mathlib.Omega.{arith}
 use native.Mathlib.Decide.{decLe, ℕ-discrete}
 use lib.Dec.{leb, eqb}
-use lib.IntN.{ℤ, pos, negsuc, predℤ, negℤ}
-use lib.Signed.{leZ, ltZ}
+use lib.IntN.{ℤ, pos, negsuc, predℤ}
+use lib.Signed.{leZ}
 use borrow.Author.Tests.{le-leb, lt-leb, eq-eqb, ne-eqb}
 use Rattle.meaning.specs.Numbers.{bit, eqZ, step}
 use Rattle.meaning.specs.Edges.{Edge, edge, on, west, east, number, Closed, soundEdge}
-use Rattle.basics.specs.Lists.{All, all-map, number-none}
+use Rattle.basics.specs.Lists.{all-map, number-none}
 use Rattle.basics.specs.Tests.{and-off}
 use Rattle.basics.specs.Steps.{step-pred}
+use Rattle.basics.specs.Sound.{Sound, sound-parts, lifted}
 use Rattle.grid.specs.Plane.{ClosedN}
 use Rattle.laws.specs.View.{before-first}
 use Rattle.laws.specs.Columns.{toUpTo, fromUpTo, columns, closed-up-to}
-use Rattle.laws.specs.Covered.{Sound, liftEdge, sound-parts, low, wests-column, easts-column, view-closed}
+use Rattle.laws.specs.Covered.{low, wests-column, easts-column, view-closed}
 
 unfoldable pub fromAt : ℤ → Edge ℤ → Bool
 fromAt x (edge l y f t) = eqZ f x
@@ -79,14 +80,14 @@ module _ (top L : ℕ) (es : List (Edge ℤ)) (s : Sound top L es) (h : (c : ℕ
   from-none c = number-none _ es (all-map _ _ es one s)
     where
       one : (e : Edge ℤ) → soundEdge top L e ≡ true → (on c e && fromUpTo (predℤ (step L 0)) e) ≡ false
-      one (edge l y f t) q = rw (low top L f (predℤ (step L 0)) (sound-parts top L l y f t q .from-in) (before-first L)) (and-off (on c (edge l y f t)))
+      one (edge l y f t) q = rw (low L f (predℤ (step L 0)) (sound-parts top L l y f t q .from-in) (before-first L)) (and-off (on c (edge l y f t)))
 
   to-none : (c : ℕ) → number (λ e. on c e && toUpTo (predℤ (step L 0)) e) es ≡ 0
   unfolding toUpTo
   to-none c = number-none _ es (all-map _ _ es one s)
     where
       one : (e : Edge ℤ) → soundEdge top L e ≡ true → (on c e && toUpTo (predℤ (step L 0)) e) ≡ false
-      one (edge l y f t) q = rw (low top L t (predℤ (step L 0)) (sound-parts top L l y f t q .to-in) (before-first L)) (and-off (on c (edge l y f t)))
+      one (edge l y f t) q = rw (low L t (predℤ (step L 0)) (sound-parts top L l y f t q .to-in) (before-first L)) (and-off (on c (edge l y f t)))
 
   up-to : (c n : ℕ) → number (λ e. on c e && fromUpTo (step L n) e) es ≡ number (λ e. on c e && toUpTo (step L n) e) es
   up-to c zero = omega (arith, from-step es c (step L 0), to-step es c (step L 0), from-none c, to-none c, h c (step L 0))
@@ -99,7 +100,7 @@ module _ (top L : ℕ) (es : List (Edge ℤ)) (s : Sound top L es) (h : (c : ℕ
   unfolding ClosedN
   ends-closed = view-closed top L es s steps
     where
-      steps : ClosedN (map (liftEdge L) es)
+      steps : ClosedN (map (lifted L) es)
       steps c i =
           let e : number (λ e. on c e && west (step L i) e) es ≡ number (λ e. on c e && east (step L i) e) es = omega (arith, columns es c (step L i), up-to c i) in
           sym (wests-column top L es s c i) ∙ e ∙ easts-column top L es s c i

@@ -33,5 +33,7 @@ pub use Rattle.laws.specs.Parts.{kinds-even}
 pub use Rattle.laws.specs.View.{result-view, cells-view}
 pub use Rattle.laws.specs.Covered.{inside-view, closed-view}
 pub use Rattle.grid.specs.Compression.{result-at}
+-- ACCEPTED: refusals 1 to 5 let a list pass exactly when its numbers are at most 4,096 sound edges, none of them flat, and closed
+pub use Rattle.laws.specs.Accepting.{edges-pass, edges-passed}
 -- ONE ANSWER: a table of refusals says one answer, for every call
 pub use Rattle.basics.specs.Tables.{one-answer}

@@ -4,6 +4,7 @@ pub mod Columns
 pub mod View
 pub mod Covered
 pub mod Ends
+pub mod Accepting
 pub mod Listed
 pub mod Ordered
 pub mod OnlyOne

@@ -22,12 +22,12 @@ use Rattle.meaning.specs.Records.{Run, run, line, Record, rec, each, result, pa
 use Rattle.basics.specs.Tests.{and-off, spans}
 use Rattle.basics.specs.Lists.{All, all-map, all-append, all-to-map, number-none}
 use Rattle.basics.specs.Signed.{eqZ-no, lt-le-trans, le-trans-leZ, lt-not-le, le-not-lt, lt-le, pred-lt, lt-pred}
-use Rattle.basics.specs.Steps.{lift, step-lt, step-le, step-eq, step-lift, lift-le, step-range, beyond}
+use Rattle.basics.specs.Steps.{lift, step-lt, step-le, step-eq, step-lift, lift-le, step-range, beyond, lowered}
 use Rattle.grid.specs.Plane.{levelN, uprightN, recordAt, kindN, resultN}
 use Rattle.grid.specs.OneLine.{Good, UpTo, line-good, line-upto}
 use Rattle.basics.specs.Sums.{sumOf}
 use Rattle.grid.specs.Pieces.{passesN, passingN, level-passing, upright-passing}
-use Rattle.laws.specs.View.{view, lowered, level-view, upright-view, result-view, first-step, last-step, last-is}
+use Rattle.laws.specs.View.{view, level-view, upright-view, result-view, first-step, last-step, last-is}
 
 -- ---- a record in steps passes what its lowered record passes
 

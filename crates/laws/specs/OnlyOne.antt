@@ -24,12 +24,12 @@ use Rattle.meaning.specs.Records.{Run, run, sameDir, Record, rec, kindOf, resul
 use Rattle.basics.specs.Tests.{and-left, and-right, and-off, and-on, leb-same, spans, spans-in, spans-below, spans-above, spans-empty}
 use Rattle.basics.specs.Lists.{All, all-map, all-append, all-to-map, number-none}
 use Rattle.basics.specs.Signed.{eqZ-refl}
-use Rattle.basics.specs.Steps.{lift, step-lt, step-eq, step-range, step-lift, lift-le}
+use Rattle.basics.specs.Steps.{lift, step-lt, step-eq, step-range, step-lift, lift-le, lowered}
 use Rattle.grid.specs.OneLine.{Good, dirAt, unique, fwd≢off, bwd≢off}
 use Rattle.grid.specs.Plane.{resultN}
 use Rattle.basics.specs.Sums.{sumOf}
 use Rattle.grid.specs.Pieces.{passesN, passingN}
-use Rattle.laws.specs.View.{view, lowered, result-view}
+use Rattle.laws.specs.View.{view, result-view}
 use Rattle.laws.specs.Listed.{Inner, result-inner, passing-view, level-listed, upright-listed}
 use Rattle.laws.specs.Ordered.{From, lines-from, result-in-order}
 

@@ -9,34 +9,32 @@
 --   cells-and-or     AND PLUS OR: their cells are those of both
 use mathlib.Core.Path.{_≡_, refl, sym, ap, ap₂, _∙_, subst, fun-ext}
 use mathlib.Core.Bool.{Bool, true, false, _&&_, _||_}
-use mathlib.Core.Logic.{_≢_, _⊎_, inl, inr}
+use mathlib.Core.Logic.{_⊎_, inl, inr}
 use mathlib.Core.List.{List, [], _∷_, _++_, map, append-nil}
-use Prim.Native.Nat.{ℕ, zero, suc, _+_, _*_, _≤_}
+use Prim.Native.Nat.{ℕ, zero, suc, _+_, _*_}
 use native.Mathlib.Omega.{arith}
-use native.Mathlib.Decide.{decLt}
-use native.Mathlib.Nat.{zero-add, add-zero}
 use lib.Dec.{eqb}
 use lib.ListN.{length, length-map}
-use lib.IntN.{ℤ, pos, natAbs, negℤ, _-ℤ_}
+use lib.IntN.{ℤ, pos, negℤ, _-ℤ_}
 use lib.Signed.{leZ, ltZ}
 use borrow.Author.Tests.{le-leb, ne-eqb, eqb-true, eqb-false}
 use Rattle.meaning.specs.Numbers.{bit, pick, eqZ, inRange, step}
-use Rattle.meaning.specs.Edges.{Edge, edge, west, east, on, upTo, number, wests, easts, count, covers, Closed, soundEdge}
+use Rattle.meaning.specs.Edges.{Edge, edge, west, east, on, upTo, wests, easts, count, covers, Closed, soundEdge}
 use Rattle.meaning.specs.Cells.{Dir, off, fwd, bwd, inside, level, upright, Within}
-use Rattle.meaning.specs.Records.{Run, run, line, Record, rec, recordOf, each, kindOf, result, asEdge, putIn}
+use Rattle.meaning.specs.Records.{Run, run, line, Record, rec, recordOf, each, kindOf, result, putIn}
 use Rattle.meaning.specs.Area.{cells}
-use Rattle.basics.specs.Tests.{and-off}
 use Rattle.basics.specs.Lists.{All, all-map, number-none, number-append}
 use Rattle.basics.specs.Signed.{lt-le}
-use Rattle.basics.specs.Steps.{lift, lift-step, step-range, step-lift, beyond}
+use Rattle.basics.specs.Steps.{lift, lift-step, step-range, step-lift, beyond, lowered}
+use Rattle.basics.specs.Sound.{Sound, lifted}
 use Rattle.grid.specs.Plane.{westsN, eastsN, levelN, uprightN, kindN, ClosedN}
 use Rattle.grid.specs.Covering.{covers-one}
-use Rattle.grid.specs.AsLayer.{asEdge as asEdgeN, asLayer, layer, layer-other, cells-and-or as cells-and-or-steps}
+use Rattle.grid.specs.AsLayer.{asLayer, layer, cells-and-or as cells-and-or-steps}
 use Rattle.grid.specs.AreaLaws.{cellsN}
 use Rattle.grid.specs.Points.{as-many}
 use Rattle.grid.specs.Beside.{layer-adds, layer-closed}
-use Rattle.laws.specs.View.{view, lowered, levels-view, uprights-view, within-bounded}
-use Rattle.laws.specs.Covered.{Sound, liftEdge, wests-view, easts-view, outside-even, view-closed}
+use Rattle.laws.specs.View.{view, levels-view, uprights-view, within-bounded}
+use Rattle.laws.specs.Covered.{wests-view, easts-view, outside-even, view-closed}
 use Rattle.laws.specs.Listed.{Inner, all-each, kind-inner}
 
 -- ---- the edges that are put in
@@ -73,8 +71,8 @@ put-levels c L g =
 abbrev pub Kind0 : Record ℕ → Type 0
 Kind0 (rec kind p f t) = kind ≡ 0
 
-lift-lowered : (c L : ℕ) (rs : List (Record ℕ)) → All Kind0 rs → map (liftEdge L) (putIn c (map (lowered L) rs)) ≡ asLayer c rs
-unfolding putIn asLayer
+lift-lowered : (c L : ℕ) (rs : List (Record ℕ)) → All Kind0 rs → map (lifted L) (putIn c (map (lowered L) rs)) ≡ asLayer c rs
+unfolding putIn asLayer lifted
 lift-lowered c L [] a = refl
 lift-lowered c L (rec zero p f t ∷ rs) a =
     ap₂ (λ (e : Edge ℕ) (es : List (Edge ℕ)). e ∷ es) (rw (lift-step L p, lift-step L f, lift-step L t)) (lift-lowered c L rs (a .1))
@@ -105,8 +103,8 @@ module _ (c L : ℕ) (g : ℤ → ℤ → Bool) (w : Within L g) where
   pub put-in-sound : Sound c L (putIn c (result L g))
   put-in-sound = subst (Sound c L) (sym in-steps) (sound-lowered c L (kindN 0 (levelN (view L g)) (2 * L)) (kind-inner 0 (levelN (view L g)) (2 * L)))
 
-  pub put-in-steps : map (liftEdge L) (putIn c (result L g)) ≡ layer c (2 * L) (view L g)
-  put-in-steps = ap (map (liftEdge L)) in-steps ∙ lift-lowered c L (kindN 0 (levelN (view L g)) (2 * L)) kind-zero
+  pub put-in-steps : map (lifted L) (putIn c (result L g)) ≡ layer c (2 * L) (view L g)
+  put-in-steps = ap (map (lifted L)) in-steps ∙ lift-lowered c L (kindN 0 (levelN (view L g)) (2 * L)) kind-zero
 
   pub put-in-closed : Closed (putIn c (result L g))
   put-in-closed = view-closed c L (putIn c (result L g)) put-in-sound (subst ClosedN (sym put-in-steps) (layer-closed c (2 * L) (view L g) (within-bounded L g w)))

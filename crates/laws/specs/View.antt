@@ -1,7 +1,6 @@
 -- The step view: the result over whole numbers is that of `grid`, with each step lowered to its coordinate. Assumes nothing.
 --
 --   view L g            the set of cells g in steps
---   lowered L r         a record in steps as one in coordinates
 --   level-view, upright-view   the unit pieces agree, where no cell lies outside the range
 --   result-view         THE VIEW: result L g is resultN (2 * L) (view L g), lowered
 --   cells-view          and its cells are counted alike
@@ -20,16 +19,13 @@ use Rattle.meaning.specs.Records.{Run, run, line, Record, rec, recordOf, each, 
 use Rattle.meaning.specs.Area.{cells}
 use Rattle.basics.specs.Lists.{map-append}
 use Rattle.basics.specs.Signed.{minus-sub, sub-pos, sub-neg}
-use Rattle.basics.specs.Steps.{step-pred, step-le}
+use Rattle.basics.specs.Steps.{step-pred, step-le, lowered}
 use Rattle.grid.specs.Plane.{prior, levelN, uprightN, recordAt, kindN, resultN}
 use Rattle.grid.specs.AreaLaws.{cellsN}
 use Rattle.grid.specs.Beside.{Bounded}
 
 abbrev pub view : ℕ → (ℤ → ℤ → Bool) → ℕ → ℕ → Bool
 view L g i j = g (step L i) (step L j)
-
-abbrev pub lowered : ℕ → Record ℕ → Record ℤ
-lowered L (rec kind p f t) = rec kind (step L p) (step L f) (step L t)
 
 -- ---- lists
 

@@ -7,20 +7,20 @@
 use mathlib.Core.Path.{_≡_, refl, sym, ap, ap₂, _∙_, fun-ext}
 use mathlib.Core.Bool.{Bool, true, false, _&&_, true≢false, false≢true}
 use mathlib.Core.List.{List, [], _∷_}
-use Prim.Native.Nat.{ℕ, _+_, _<_}
+use Prim.Native.Nat.{ℕ, _+_}
 use native.Mathlib.Omega.{arith}
 use lib.IntN.{ℤ, pos, natAbs, _-ℤ_}
-use Rattle.meaning.specs.Numbers.{bit, eqZ}
+use Rattle.meaning.specs.Numbers.{bit}
 use Rattle.meaning.specs.Edges.{Edge, edge, west, east, on, upTo, number, wests, easts, count, covers, Closed}
 use Rattle.meaning.specs.Expression.{Expr, eval, sum, Is}
 use Rattle.meaning.specs.Cells.{handed, inside}
 use Rattle.basics.specs.Lists.{All, all-map, number-none}
 use Rattle.basics.specs.Signed.{eqZ-true}
 use Rattle.basics.specs.Bits.{bitAt}
-use Rattle.expression_laws.specs.Cover.{coverOf, byteOf, Table, Letters}
+use Rattle.expression_laws.specs.Cover.{coverOf, Table, Letters}
 use Rattle.expression_laws.specs.Meanings.{means-at}
 use Rattle.expression_laws.specs.Covers.{looked-up, left-out}
-use Rattle.columns.specs.Kept.{bitOf, keeps, keepIf, kept}
+use Rattle.columns.specs.Kept.{keeps, keepIf, kept}
 
 pub kept-all : (P : Edge ℤ → Type 0) (used : ℕ) (es : List (Edge ℤ)) → All P es → All P (kept used es)
 unfolding kept
@@ -41,11 +41,11 @@ all-keep used (e ∷ es) = go (keeps used e) refl (all-keep used es)
     go false q r = r
 
 -- an edge of layer c is kept exactly when the layer is
-on-keeps : (used c : ℕ) (e : Edge ℤ) → on c e ≡ true → keeps used e ≡ bitOf used c
+on-keeps : (used c : ℕ) (e : Edge ℤ) → on c e ≡ true → keeps used e ≡ bitAt used c
 unfolding on keeps
-on-keeps used c (edge l y f t) h = ap (λ (z : ℤ). bitOf used (natAbs z)) (eqZ-true l (pos c) h)
+on-keeps used c (edge l y f t) h = ap (λ (z : ℤ). bitAt used (natAbs z)) (eqZ-true l (pos c) h)
 
-on-not : (used c : ℕ) (b : Bool) → bitOf used c ≡ b → (e : Edge ℤ) (d : Bool) → keeps used e ≡ d → (b ≡ d → ⊥) → on c e ≡ false
+on-not : (used c : ℕ) (b : Bool) → bitAt used c ≡ b → (e : Edge ℤ) (d : Bool) → keeps used e ≡ d → (b ≡ d → ⊥) → on c e ≡ false
 on-not used c b p e d q n = go (on c e) refl
   where
     go : (t : Bool) → on c e ≡ t → on c e ≡ false
@@ -63,7 +63,7 @@ number-kept p used (e ∷ es) h = go (keeps used e) refl (number-kept p used es 
     go false q r = let z : bit (p e) ≡ 0 = ap bit (h e q) in omega arith
 
 module _ (used : ℕ) (es : List (Edge ℤ)) where
-  module _ (c : ℕ) (h : bitOf used c ≡ true) where
+  module _ (c : ℕ) (h : bitAt used c ≡ true) where
     out : (e : Edge ℤ) → keeps used e ≡ false → on c e ≡ false
     out e q = on-not used c true h e false q (λ z. true≢false z)
 
@@ -77,12 +77,12 @@ module _ (used : ℕ) (es : List (Edge ℤ)) where
 
   pub kept-closed : Closed es → Closed (kept used es)
   unfolding Closed
-  kept-closed closed c i = go (bitOf used c) refl
+  kept-closed closed c i = go (bitAt used c) refl
     where
-      none : (p : Edge ℤ → Bool) → bitOf used c ≡ false → number (λ e. on c e && p e) (kept used es) ≡ 0
+      none : (p : Edge ℤ → Bool) → bitAt used c ≡ false → number (λ e. on c e && p e) (kept used es) ≡ 0
       none p h = number-none (λ e. on c e && p e) (kept used es) (all-map _ _ (kept used es) (λ e q. ap (λ (b : Bool). b && p e) (on-not used c false h e true q (λ z. false≢true z))) (all-keep used es))
 
-      go : (b : Bool) → bitOf used c ≡ b → number (λ e. on c e && west i e) (kept used es) ≡ number (λ e. on c e && east i e) (kept used es)
+      go : (b : Bool) → bitAt used c ≡ b → number (λ e. on c e && west i e) (kept used es) ≡ number (λ e. on c e && east i e) (kept used es)
       go true h =
           number-kept (λ e. on c e && west i e) used es (λ e q. ap (λ (b : Bool). b && west i e) (out c h e q))
           ∙ closed c i
@@ -90,7 +90,7 @@ module _ (used : ℕ) (es : List (Edge ℤ)) where
       go false h = none (west i) h ∙ sym (none (east i) h)
 
   pub inside-kept : (text : List ℕ) (truth : List Bool) (e : Expr) → Table text truth → Letters truth used → Is sum text e → inside (λ h. eval h e) (kept used es) ≡ inside (λ h. eval h e) es
-  unfolding inside count bitOf bitAt
+  unfolding inside count
   inside-kept text truth e t r is = fun-ext (λ i. fun-ext (λ j.
       sym (looked-up t (handed (kept used es) i j) (means-at text (e, is) (handed (kept used es) i j)))
       ∙ left-out r (handed (kept used es) i j) (handed es i j) (λ c l k. same i j c k)

@@ -12,5 +12,6 @@ pub mod MaskFile
 pub mod Faults
 pub mod Drawn
 pub mod Printed
+pub mod Program
 pub mod Spots
 pub mod PrintedSpots

@@ -16,7 +16,7 @@ use lib.Dec.{ltb}
 use lib.IntN.{ℤ, pos, negsuc, _-ℤ_}
 use lib.ListN.{length}
 use Rattle.meaning.specs.Numbers.{pick}
-use Rattle.meaning.specs.Rings.{Pair, Ring, Each}
+use Rattle.meaning.specs.Rings.{Pair, Ring, All}
 
 -- "Numbers are groups of seven bits, least group first, the high bit set when another follows; at most five groups, and the last group
 -- of several is not zero."
@@ -72,7 +72,7 @@ pub record Stands (G v : ℕ) (bs : List ℕ) : Type 0 where
 
 -- groups that are all followed by another
 abbrev pub Continued : List ℕ → Type 0
-Continued cs = Each (λ c. 128 ≤ c) cs
+Continued cs = All (λ c. 128 ≤ c) cs
 
 -- a number that is "absent or cut short"
 pub record Cut (G : ℕ) (bs : List ℕ) : Type 0 where

@@ -2,7 +2,7 @@
 --
 --   Pair               x and y
 --   Ring               a layer and its pairs
---   Each P l           every element of l is P
+--   All P l            every element of l is P
 --   cyclic l           each element of l with the one after it, and the last with the first
 --   xs ps, ys ps       the x and the y of each pair
 --   Differ zs          cyclic neighbours differ
@@ -37,9 +37,9 @@ pair x y = record { x = x; y = y }
 abbrev pub ring : ℕ → List Pair → Ring
 ring l ps = record { layer = l; pairs = ps }
 
-abbrev pub Each : {A : Type 0} → (A → Type 0) → List A → Type 0
-Each P [] = Unit {0}
-Each P (a ∷ l) = P a × Each P l
+abbrev pub All : {A : Type 0} → (A → Type 0) → List A → Type 0
+All P [] = Unit {0}
+All P (a ∷ l) = P a × All P l
 
 -- from b on through l, and back to a
 abbrev pub backTo : {A : Type 0} → A → A → List A → List (A × A)
@@ -58,7 +58,7 @@ ys ps = map (λ p. p .y) ps
 
 -- "Cyclic neighbours in x and in y must differ."
 abbrev pub Differ : List ℤ → Type 0
-Differ zs = Each (λ n. n .0 ≢ n .1) (cyclic zs)
+Differ zs = All (λ n. n .0 ≢ n .1) (cyclic zs)
 
 abbrev pub InRange : ℕ → Pair → Type 0
 InRange L p = (inRange L (p .x) ≡ true) × (inRange L (p .y) ≡ true)
@@ -67,7 +67,7 @@ InRange L p = (inRange L (p .x) ≡ true) × (inRange L (p .y) ≡ true)
 pub record GoodRing (L : ℕ) (r : Ring) : Type 0 where
   pub low : r .layer ≤ 7
   pub two : 2 ≤ length (r .pairs)
-  pub range : Each (InRange L) (r .pairs)
+  pub range : All (InRange L) (r .pairs)
   pub differ-x : Differ (xs (r .pairs))
   pub differ-y : Differ (ys (r .pairs))
 
@@ -77,7 +77,7 @@ pairsIn (r ∷ rs) = length (r .pairs) + pairsIn rs
 
 -- "At most 4,096 pairs in a file."
 pub record GoodRings (L : ℕ) (rs : List Ring) : Type 0 where
-  pub each : Each (GoodRing L) rs
+  pub each : All (GoodRing L) rs
   pub few : pairsIn rs ≤ 4096
 
 -- "In memory a ring list is layer, k, x1, y1, ..., xk, yk as plain numbers, ring after ring, and may be empty."

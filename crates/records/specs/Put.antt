@@ -1,6 +1,5 @@
 -- Records in a lent buffer. A record in steps has its coordinates counted from the least one, as the sweep has them.
 --
---   stepped r            the record of coordinates that a record in steps stands for
 --   numbers rs           the numbers of records in steps: those of document 01's records
 --   putAt out n r        record number n is r, where there is room
 --   emitted out n rs     the records rs, from record number n on, as far as there is room
@@ -13,12 +12,10 @@ use lib.Dec.{ltb}
 use lib.IntN.{ℤ, pos}
 use Rattle.meaning.specs.Numbers.{limit, step, pick}
 use Rattle.meaning.specs.Records.{Record, rec, numbersOf}
-
-abbrev pub stepped : Record ℕ → Record ℤ
-stepped (rec k p f t) = rec k (step limit p) (step limit f) (step limit t)
+use Rattle.basics.specs.Steps.{lowered}
 
 unfoldable pub numbers : List (Record ℕ) → List ℤ
-numbers rs = numbersOf (map stepped rs)
+numbers rs = numbersOf (map (lowered limit) rs)
 
 pub record RecordOk (k p f t : ℕ) : Type 0 where
   pub kind : k ≤ 1

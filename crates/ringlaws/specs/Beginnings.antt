@@ -18,11 +18,12 @@ use lib.ListN.{length, length-append}
 use borrow.Author.Tests.{eq-eqb, ne-eqb}
 use Rattle.meaning.specs.Numbers.{inRange}
 use Rattle.meaning.specs.Answers.{Answer, answer}
-use Rattle.meaning.specs.Rings.{Pair, pair, Ring, ring, Each, InRange, xs, ys, Differ, GoodRing, GoodRings, pairsIn}
+use Rattle.meaning.specs.Rings.{Pair, pair, Ring, ring, All, InRange, xs, ys, Differ, GoodRing, GoodRings, pairsIn}
 use Rattle.meaning.specs.Faults.{Begun, at-layer, at-count, at-x, at-y, after, IsLayer, IsCount, TooMany, Beside, Judged, Begins, nothing, more}
+use Rattle.basics.specs.Lists.{map-append, all-append, all-back}
 use Rattle.ringlaws.specs.Groups.{clash}
 use Rattle.ringlaws.specs.Differences.{pos-inj}
-use Rattle.ringlaws.specs.Neighbours.{each-snoc, each-back, map-snoc, map-split, Along, along-snoc, closed, apart}
+use Rattle.ringlaws.specs.Neighbours.{Along, along-snoc, closed, apart}
 
 abbrev pub Fine : ℕ → Begun → ℤ → Type 0
 Fine L b z = (p : ℕ) (a : Answer) → Judged L b z p a → ⊥
@@ -103,7 +104,7 @@ pub record Partial (L : ℕ) (rs : List Ring) (l k : ℕ) (ps : List Pair) : Typ
   pub two : 2 ≤ k
   pub few : pairsIn rs + k ≤ 4096
   pub short : length ps < k
-  pub range : Each (InRange L) ps
+  pub range : All (InRange L) ps
   pub along-x : Along (xs ps)
   pub along-y : Along (ys ps)
 
@@ -131,20 +132,20 @@ length-ys [] = refl
 length-ys (p ∷ ps) = ap suc (length-ys ps)
 
 module _ (L : ℕ) (rs : List Ring) (l k : ℕ) (ps : List Pair) (x z : ℤ) (g : Partial L rs l k ps) (fx : FineAt L (xs ps) k x) (fz : FineAt L (ys ps) k z) where
-  range-pair : Each (InRange L) (ps ++ pair x z ∷ [])
-  range-pair = each-snoc (InRange L) ps (pair x z) (g .range) (fx .0, fz .0)
+  range-pair : All (InRange L) (ps ++ pair x z ∷ [])
+  range-pair = all-append (InRange L) ps (pair x z ∷ []) (g .range) ((fx .0, fz .0), tt)
 
   pub ring-closes : suc (length ps) ≡ k → GoodRings L (rs ++ ring l (ps ++ pair x z ∷ []) ∷ [])
   ring-closes e =
-      record { each = each-snoc (GoodRing L) rs (ring l (ps ++ pair x z ∷ [])) (g .rings .each) whole; few = omega (arith, pairs-snoc rs (ring l (ps ++ pair x z ∷ [])), length-snoc ps (pair x z), g .few) }
+      record { each = all-append (GoodRing L) rs (ring l (ps ++ pair x z ∷ []) ∷ []) (g .rings .each) (whole, tt); few = omega (arith, pairs-snoc rs (ring l (ps ++ pair x z ∷ [])), length-snoc ps (pair x z), g .few) }
     where
       whole : GoodRing L (ring l (ps ++ pair x z ∷ []))
       whole = record {
         low = g .low;
         two = omega (arith, g .two, length-snoc ps (pair x z));
         range = range-pair;
-        differ-x = subst⁻¹ Differ (map-snoc (λ p. p .x) ps (pair x z)) (closed (xs ps) k x (g .two) (ap suc (length-xs ps) ∙ e) (g .along-x) (fx .1));
-        differ-y = subst⁻¹ Differ (map-snoc (λ p. p .y) ps (pair x z)) (closed (ys ps) k z (g .two) (ap suc (length-ys ps) ∙ e) (g .along-y) (fz .1));
+        differ-x = subst⁻¹ Differ (map-append (λ p. p .x) ps (pair x z ∷ [])) (closed (xs ps) k x (g .two) (ap suc (length-xs ps) ∙ e) (g .along-x) (fx .1));
+        differ-y = subst⁻¹ Differ (map-append (λ p. p .y) ps (pair x z ∷ [])) (closed (ys ps) k z (g .two) (ap suc (length-ys ps) ∙ e) (g .along-y) (fz .1));
       }
 
   pub pair-more : suc (length ps) ≢ k → Partial L rs l k (ps ++ pair x z ∷ [])
@@ -156,8 +157,8 @@ module _ (L : ℕ) (rs : List Ring) (l k : ℕ) (ps : List Pair) (x z : ℤ) (g 
         few = g .few;
         short = omega (arith, g .short, length-snoc ps (pair x z));
         range = range-pair;
-        along-x = subst⁻¹ Along (map-snoc (λ p. p .x) ps (pair x z)) (along-snoc (xs ps) k x (g .along-x) (fx .1));
-        along-y = subst⁻¹ Along (map-snoc (λ p. p .y) ps (pair x z)) (along-snoc (ys ps) k z (g .along-y) (fz .1));
+        along-x = subst⁻¹ Along (map-append (λ p. p .x) ps (pair x z ∷ [])) (along-snoc (xs ps) k x (g .along-x) (fx .1));
+        along-y = subst⁻¹ Along (map-append (λ p. p .y) ps (pair x z ∷ [])) (along-snoc (ys ps) k z (g .along-y) (fz .1));
       }
 
   pub pair-good : Good L (after (at-y rs l k ps x) z)
@@ -203,13 +204,13 @@ module _ {A : Type 0} (L : ℕ) (S : Begun → ℤ → List A → Type 0) (start
       step (at-y rs l k qs (p .x)) (p .y) (y-fine L rs l k qs (p .x) (p .y) (here .1, apart-y)) (step (at-x rs l k qs) (p .x) (x-fine L rs l k qs (p .x) (here .0, apart-x)) r)
     where
       here : InRange L p
-      here = each-back (InRange L) qs (p ∷ ps) (g .range) .0
+      here = all-back (InRange L) qs (p ∷ ps) (g .range) .0
 
       apart-x : Beside (xs qs) k (p .x) → ⊥
-      apart-x = apart (xs qs) (p .x) (xs ps) k (ap length (sym (map-split (λ q. q .x) qs p ps)) ∙ length-xs (qs ++ p ∷ ps) ∙ n) (subst Differ (map-split (λ q. q .x) qs p ps) (g .differ-x))
+      apart-x = apart (xs qs) (p .x) (xs ps) k (ap length (sym (map-append (λ q. q .x) qs (p ∷ ps))) ∙ length-xs (qs ++ p ∷ ps) ∙ n) (subst Differ (map-append (λ q. q .x) qs (p ∷ ps)) (g .differ-x))
 
       apart-y : Beside (ys qs) k (p .y) → ⊥
-      apart-y = apart (ys qs) (p .y) (ys ps) k (ap length (sym (map-split (λ q. q .y) qs p ps)) ∙ length-ys (qs ++ p ∷ ps) ∙ n) (subst Differ (map-split (λ q. q .y) qs p ps) (g .differ-y))
+      apart-y = apart (ys qs) (p .y) (ys ps) k (ap length (sym (map-append (λ q. q .y) qs (p ∷ ps))) ∙ length-ys (qs ++ p ∷ ps) ∙ n) (subst Differ (map-append (λ q. q .y) qs (p ∷ ps)) (g .differ-y))
 
   -- its pairs from p on
   reach-pairs : (ps : List Pair) (rs : List Ring) (l k : ℕ) (qs : List Pair) (p : Pair) → GoodRing L (ring l (qs ++ p ∷ ps)) → length (qs ++ p ∷ ps) ≡ k → Reached (at-x rs l k qs) → Reached (at-layer (rs ++ ring l (qs ++ p ∷ ps) ∷ []))
@@ -233,7 +234,7 @@ module _ {A : Type 0} (L : ℕ) (S : Begun → ℤ → List A → Type 0) (start
           (reach-pairs ps rs (r .layer) (length (r .pairs)) [] p (subst (λ (m : List Pair). GoodRing L (ring (r .layer) m)) e g) (ap length (sym e))
           (step (at-count rs (r .layer)) (pos (length (r .pairs))) (count-fine L rs (r .layer) (length (r .pairs)) (g .two) h) (step (at-layer rs) (pos (r .layer)) (layer-fine L rs (r .layer) (g .low)) t)))
 
-  reach-rings : (rs qs : List Ring) → Each (GoodRing L) rs → pairsIn qs + pairsIn rs ≤ 4096 → Reached (at-layer qs) → Reached (at-layer (qs ++ rs))
+  reach-rings : (rs qs : List Ring) → All (GoodRing L) rs → pairsIn qs + pairsIn rs ≤ 4096 → Reached (at-layer qs) → Reached (at-layer (qs ++ rs))
   unfolding pairsIn
   reach-rings [] qs g h t = subst⁻¹ (λ (m : List Ring). Reached (at-layer m)) (append-nil qs) t
   reach-rings (r ∷ rs) qs g h t =

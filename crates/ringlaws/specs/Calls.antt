@@ -1,6 +1,7 @@
 -- The calls `read`, `write` and `edges_of` as tables: each has one answer and one buffer for every input; and which answer each case has. Assumes
 -- nothing.
 --
+--   file-fault-one                     a file has at most one first fault
 --   read-one, list-one                 answers meeting a table are equal, and so are the buffers after it
 --   read-long, read-fault, read-laid   the rows of the table of `read`
 --   list-fault, list-laid              the rows of a table over a ring list
@@ -16,7 +17,7 @@ use lib.IntN.{ℤ, _-ℤ_}
 use lib.ListN.{length, drop, length-append}
 use Rattle.meaning.specs.Numbers.{limit}
 use Rattle.meaning.specs.Answers.{Answer, accepted, Row, given, file-too-long, ends-inside, bad-number, other-edition, room-too-short}
-use Rattle.meaning.specs.Rings.{Pair, Ring, Each, GoodRing, GoodRings, pairsIn, numbersOf}
+use Rattle.meaning.specs.Rings.{Pair, Ring, All, GoodRing, GoodRings, pairsIn, numbersOf}
 use Rattle.meaning.specs.MaskFile.{spelt, five, signed, furtherPairs, storedPairs, storedRings, bytesOfAll, bytesOf, longest, Stands, Cut, NotShortest, TooLong}
 use Rattle.meaning.specs.Faults.{RingFault, FileFault, ListFault, Laid, Read, OfList}
 use Rattle.basics.specs.Tables.{Single, single-given, one-answer}
@@ -27,7 +28,7 @@ use Rattle.ringlaws.specs.Meet.{stands-front, stands-one, ring-fault-one
 -- ---- the first faulty number of a file
 
 module _ (G L : ℕ) (o : 1 ≤ G) (h : Holds G L) where
-  file-fault-one : (f : List ℕ) → Single (FileFault G L f)
+  pub file-fault-one : (f : List ℕ) → Single (FileFault G L f)
   file-fault-one f =
       one-answer (given (Cut G f) (ends-inside (length f)) ∷ given (TooLong G f ⊎ NotShortest G f) (bad-number 0) ∷ given ((v : ℕ) × Stands G v f × (v ≡ 1 → ⊥)) other-edition ∷ []) (RingFault G L f)
       (single-given (Cut G f) (ends-inside (length f)), (single-given (TooLong G f ⊎ NotShortest G f) (bad-number 0), (single-given ((v : ℕ) × Stands G v f × (v ≡ 1 → ⊥)) other-edition, tt)))
@@ -129,7 +130,7 @@ pairs-length (p ∷ ps) =
     omega (arith, further-length p ps, length-append (spelt five (signed (p .x))) (spelt five (signed (p .y)) ++ bytesOfAll five (furtherPairs p ps)), length-append (spelt five (signed (p .y))) (bytesOfAll five (furtherPairs p ps)), spelt-most five (signed (p .x)), spelt-most five (signed (p .y)))
 
 -- a layer takes one byte, a k two at most, a pair ten at most; a ring has two pairs at least
-rings-length : (rs : List Ring) → Each (GoodRing limit) rs → pairsIn rs ≤ 4096 → 2 * length (bytesOfAll five (storedRings rs)) ≤ 23 * pairsIn rs
+rings-length : (rs : List Ring) → All (GoodRing limit) rs → pairsIn rs ≤ 4096 → 2 * length (bytesOfAll five (storedRings rs)) ≤ 23 * pairsIn rs
 unfolding bytesOfAll storedRings pairsIn
 rings-length [] g h = lit≤ tt
 rings-length (r ∷ rs) g h =

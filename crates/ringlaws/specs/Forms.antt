@@ -15,7 +15,7 @@ use lib.IntN.{ℤ, pos, _-ℤ_, +ℤ-idr}
 use lib.ListN.{length}
 use borrow.Author.Tests.{eq-eqb, ne-eqb, le-leb}
 use Rattle.meaning.specs.Numbers.{inRange}
-use Rattle.meaning.specs.Rings.{Pair, pair, Ring, ring, Each, InRange, xs, ys, GoodRings, pairNumbers, numbersOf}
+use Rattle.meaning.specs.Rings.{Pair, pair, Ring, ring, All, InRange, xs, ys, GoodRings, pairNumbers, numbersOf}
 use Rattle.meaning.specs.MaskFile.{spelt, most, signed, furtherPairs, storedPairs, storedRings, bytesOfAll, bytesOf}
 use Rattle.meaning.specs.Faults.{Begun, at-layer, at-count, at-x, at-y, after, Begins, nothing, more, previousOr, previous, Means, FileSpells, ListSpells}
 use Rattle.ringlaws.specs.Differences.{in-range, difference-size}
@@ -134,15 +134,15 @@ file-form G {L = L} (more {b = b} z w g s f) =
 
 -- ---- the next number can be spelt
 
-pub previous-size : (L : ℕ) (a : ℤ) (zs : List ℤ) → inRange L a ≡ true → Each (λ z. inRange L z ≡ true) zs → inRange L (previousOr a zs) ≡ true
+pub previous-size : (L : ℕ) (a : ℤ) (zs : List ℤ) → inRange L a ≡ true → All (λ z. inRange L z ≡ true) zs → inRange L (previousOr a zs) ≡ true
 previous-size L a [] h e = h
 previous-size L a (z ∷ zs) h e = previous-size L z zs (e .0) (e .1)
 
-pub range-xs : (L : ℕ) (ps : List Pair) → Each (InRange L) ps → Each (λ z. inRange L z ≡ true) (xs ps)
+pub range-xs : (L : ℕ) (ps : List Pair) → All (InRange L) ps → All (λ z. inRange L z ≡ true) (xs ps)
 range-xs L [] e = tt
 range-xs L (p ∷ ps) e = (e .0 .0, range-xs L ps (e .1))
 
-pub range-ys : (L : ℕ) (ps : List Pair) → Each (InRange L) ps → Each (λ z. inRange L z ≡ true) (ys ps)
+pub range-ys : (L : ℕ) (ps : List Pair) → All (InRange L) ps → All (λ z. inRange L z ≡ true) (ys ps)
 range-ys L [] e = tt
 range-ys L (p ∷ ps) e = (e .0 .1, range-ys L ps (e .1))
 
@@ -151,7 +151,7 @@ abbrev pub Holds : ℕ → ℕ → Type 0
 Holds G L = (4 * L + 1 < most G) × (4096 < most G)
 
 module _ (G L : ℕ) (h : Holds G L) where
-  pub stored-fits : (zs : List ℤ) (z : ℤ) → inRange L z ≡ true → Each (λ y. inRange L y ≡ true) zs → signed (z -ℤ previous zs) < most G
+  pub stored-fits : (zs : List ℤ) (z : ℤ) → inRange L z ≡ true → All (λ y. inRange L y ≡ true) zs → signed (z -ℤ previous zs) < most G
   stored-fits zs z i e =
       omega (arith, h .0, difference-size L z (previous zs) (in-range L z i) (in-range L (previous zs) (previous-size L (pos 0) zs (le-leb 0 L (omega arith)) e)))
 

@@ -1,7 +1,5 @@
 -- Neighbours along a list, and cyclic ones. Assumes nothing.
 --
---   each-snoc, each-back  `Each` of a list with one more element at its end, and of what is left of one
---   map-snoc, map-split   `map` of a list with one more element at its end, and of one in its midst
 --   Along zs              neighbours along the list differ, last and first aside
 --   along-snoc, closed    one more element that is not `Beside` them: the list is still open, or now closed
 --   apart                 in a list whose cyclic neighbours differ, no element is `Beside` those before it
@@ -13,25 +11,9 @@ use Prim.Native.Nat.{ℕ, suc, _≤_}
 use native.Mathlib.Omega.{arith}
 use lib.IntN.{ℤ}
 use lib.ListN.{length, length-append}
-use Rattle.meaning.specs.Rings.{Each, backTo, Differ}
+use lib.Seq.{append-snoc}
+use Rattle.meaning.specs.Rings.{All, backTo, Differ}
 use Rattle.meaning.specs.Faults.{Beside, previousOr}
-
-module _ {A : Type 0} (P : A → Type 0) where
-  pub each-snoc : (l : List A) (a : A) → Each P l → P a → Each P (l ++ a ∷ [])
-  each-snoc [] a e p = (p, tt)
-  each-snoc (b ∷ l) a e p = (e .0, each-snoc l a (e .1) p)
-
-  pub each-back : (l m : List A) → Each P (l ++ m) → Each P m
-  each-back [] m e = e
-  each-back (b ∷ l) m e = each-back l m (e .1)
-
-pub map-snoc : {A B : Type 0} (f : A → B) (l : List A) (a : A) → map f (l ++ a ∷ []) ≡ map f l ++ f a ∷ []
-map-snoc f [] a = refl
-map-snoc f (b ∷ l) a = ap (λ m. f b ∷ m) (map-snoc f l a)
-
-pub map-split : {A B : Type 0} (f : A → B) (l : List A) (a : A) (m : List A) → map f (l ++ a ∷ m) ≡ map f l ++ f a ∷ map f m
-map-split f [] a m = refl
-map-split f (b ∷ l) a m = ap (λ n. f b ∷ n) (map-split f l a m)
 
 -- ---- open
 
@@ -53,7 +35,7 @@ along-snoc (a ∷ l) k z e n = along-from a l z e (λ s. n (inl s))
 
 -- ---- closed
 
-closed-from : (a b : ℤ) (l : List ℤ) (z : ℤ) → AlongFrom b l → (((m : List ℤ) × (b ∷ l ≡ m ++ z ∷ [])) → ⊥) → z ≢ a → Each (λ n. n .0 ≢ n .1) (backTo a b (l ++ z ∷ []))
+closed-from : (a b : ℤ) (l : List ℤ) (z : ℤ) → AlongFrom b l → (((m : List ℤ) × (b ∷ l ≡ m ++ z ∷ [])) → ⊥) → z ≢ a → All (λ n. n .0 ≢ n .1) (backTo a b (l ++ z ∷ []))
 closed-from a b [] z e n h = (λ q. n ([], ap (λ a. a ∷ []) q), (h, tt))
 closed-from a b (c ∷ l) z e n h = (e .0, closed-from a c l z (e .1) (λ s. n (b ∷ s .0, ap (λ k. b ∷ k) (s .1))) h)
 
@@ -64,11 +46,11 @@ closed (a ∷ l) k z t h e n = closed-from a a l z e (λ s. n (inl s)) (λ q. n 
 -- ---- back
 
 module _ (a : ℤ) where
-  apart-next : (b c d : ℤ) (m n : List ℤ) → Each (λ n. n .0 ≢ n .1) (backTo a b (m ++ c ∷ d ∷ n)) → c ≢ d
+  apart-next : (b c d : ℤ) (m n : List ℤ) → All (λ n. n .0 ≢ n .1) (backTo a b (m ++ c ∷ d ∷ n)) → c ≢ d
   apart-next b c d [] n e = e .1 .0
   apart-next b c d (x ∷ m) n e = apart-next x c d m n (e .1)
 
-  apart-last : (b c : ℤ) (m : List ℤ) → Each (λ n. n .0 ≢ n .1) (backTo a b (m ++ c ∷ [])) → c ≢ a
+  apart-last : (b c : ℤ) (m : List ℤ) → All (λ n. n .0 ≢ n .1) (backTo a b (m ++ c ∷ [])) → c ≢ a
   apart-last b c [] e = e .1 .0
   apart-last b c (x ∷ m) e = apart-last x c m (e .1)
 
@@ -77,17 +59,13 @@ apart-two : (m : List ℤ) (c d : ℤ) (n : List ℤ) → Differ (m ++ c ∷ d �
 apart-two [] c d n e = e .0
 apart-two (a ∷ m) c d n e = apart-next a a c d m n e
 
-append-two : (m : List ℤ) (c : ℤ) (n : List ℤ) → (m ++ c ∷ []) ++ n ≡ m ++ c ∷ n
-append-two [] c n = refl
-append-two (a ∷ m) c n = ap (λ l. a ∷ l) (append-two m c n)
-
 none-after : (zs : List ℤ) (z : ℤ) (rest : List ℤ) → length (zs ++ z ∷ rest) ≡ suc (length zs) → rest ≡ []
 none-after zs z [] h = refl
 none-after zs z (a ∷ l) h = absurd (omega (arith, length-append zs (z ∷ a ∷ l)))
 
 pub apart : (zs : List ℤ) (z : ℤ) (rest : List ℤ) (k : ℕ) → length (zs ++ z ∷ rest) ≡ k → Differ (zs ++ z ∷ rest) → Beside zs k z → ⊥
 apart zs z rest k h e (inl s) =
-    let q : zs ++ z ∷ rest ≡ s .0 ++ z ∷ z ∷ rest = ap (λ l. l ++ z ∷ rest) (s .1) ∙ append-two (s .0) z (z ∷ rest) in
+    let q : zs ++ z ∷ rest ≡ s .0 ++ z ∷ z ∷ rest = ap (λ l. l ++ z ∷ rest) (s .1) ∙ append-snoc (s .0) z (z ∷ rest) in
     apart-two (s .0) z z rest (subst Differ q e) refl
 apart zs z rest k h e (inr s) =
     let r = none-after zs z rest (h ∙ sym (s .0)) in

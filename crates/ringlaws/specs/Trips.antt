@@ -1,6 +1,7 @@
 -- What the calls accept, and both round trips. Assumes nothing.
 --
 --   read-accepts, list-accepts, write-accepts, edges-accepts   an accepted call: its input is the form of a good ring list, and what it writes is another
+--   made-front    what an accepted call wrote is the front of its buffer
 --   read-write    what reads as a list writes back as the same bytes
 --   write-read    what a list writes reads back as the same list
 use mathlib.Core.Path.{_≡_, refl, ap, subst}
@@ -100,7 +101,7 @@ edges-accepts ns out n after = list-accepts edgesOf ns out n after
 
 -- ---- round trips: what an accepted call wrote is the first n of its buffer
 
-made-front : {B : Type 0} (made out : List B) (n : ℕ) (after : List B) → Makes made out n after → take n after ≡ made
+pub made-front : {B : Type 0} (made out : List B) (n : ℕ) (after : List B) → Makes made out n after → take n after ≡ made
 made-front made out n after m = rw (m .count, m .is) (take-append-seam made (drop (length made) out))
 
 -- "Reading then writing gives the same bytes"

@@ -4,10 +4,10 @@
 --   edges-numbers      their numbers are `edgesOf` of the ring list
 --   ring-edges-accepted   THE EDGES OF A GOOD RING LIST ARE ACCEPTED by refusals 1 to 5
 use mathlib.Core.Path.{_≡_, refl, sym, ap, ap₂, _∙_, subst}
-use mathlib.Core.Bool.{Bool, true, false, _&&_}
+use mathlib.Core.Bool.{true, false, _&&_}
 use mathlib.Core.Logic.{_≢_}
 use mathlib.Core.List.{List, [], _∷_, _++_}
-use Prim.Native.Nat.{ℕ, _+_, _*_, _/_, _%_, _≤_}
+use Prim.Native.Nat.{ℕ, _+_, _*_, _≤_}
 use native.Mathlib.Omega.{arith}
 use lib.IntN.{ℤ, pos}
 use lib.ListN.{length, length-append}
@@ -15,12 +15,12 @@ use lib.Signed.{leZ}
 use borrow.Author.Tests.{le-leb}
 use Rattle.meaning.specs.Numbers.{bit, eqZ}
 use Rattle.meaning.specs.Edges.{Edge, edge, edgesOf, edgeNumbers, on, number, Closed, soundEdge, flat}
-use Rattle.meaning.specs.Rings.{Pair, Ring, Each, backTo, cyclic, xs, InRange, GoodRing, GoodRings, pairsIn, edge as edgeWords, edgesBetween, edgesOf as ringEdges}
+use Rattle.meaning.specs.Rings.{Pair, Ring, backTo, cyclic, xs, InRange, GoodRing, GoodRings, pairsIn, edge as edgeWords, edgesBetween, edgesOf as ringEdges}
 use Rattle.basics.specs.Lists.{All, all-append, number-append}
 use Rattle.basics.specs.Signed.{eqZ-no}
+use Rattle.basics.specs.Sound.{Sound}
 use Rattle.laws.specs.Columns.{toUpTo, fromUpTo, up-to-closed}
-use Rattle.laws.specs.Covered.{Sound}
-use Rattle.demands.specs.Judging.{AcceptedEdges}
+use Rattle.laws.specs.Accepting.{AcceptedEdges}
 use Rattle.demands.specs.Parts.{edges-beside}
 
 abbrev between1 : ℕ → Pair → Pair → Edge ℤ
@@ -85,33 +85,33 @@ one-sound : (L l : ℕ) (a b : Pair) → l ≤ 7 → InRange L a → InRange L b
 unfolding soundEdge
 one-sound L l a b h ia ib = rw (le-leb 0 l (omega arith), le-leb l 7 h, ia .1, ia .0, ib .0)
 
-back-sound : (L l : ℕ) (a b : Pair) (ps : List Pair) → l ≤ 7 → InRange L a → InRange L b → Each (InRange L) ps → Sound 7 L (between l (backTo a b ps))
+back-sound : (L l : ℕ) (a b : Pair) (ps : List Pair) → l ≤ 7 → InRange L a → InRange L b → All (InRange L) ps → Sound 7 L (between l (backTo a b ps))
 unfolding between
 back-sound L l a b [] h ia ib i = (one-sound L l b a h ib ia, tt)
 back-sound L l a b (c ∷ ps) h ia ib i = (one-sound L l b c h ib (i .0), back-sound L l a c ps h ia (i .0) (i .1))
 
-ring-sound : (L l : ℕ) (ps : List Pair) → l ≤ 7 → Each (InRange L) ps → Sound 7 L (between l (cyclic ps))
+ring-sound : (L l : ℕ) (ps : List Pair) → l ≤ 7 → All (InRange L) ps → Sound 7 L (between l (cyclic ps))
 unfolding between
 ring-sound L l [] h i = tt
 ring-sound L l (p ∷ ps) h i = back-sound L l p p ps h (i .0) (i .0) (i .1)
 
-back-sloping : (l : ℕ) (a b : Pair) (ps : List Pair) → Each (λ n. n .0 ≢ n .1) (backTo (a .x) (b .x) (xs ps)) → All (λ e. flat e ≡ false) (between l (backTo a b ps))
+back-sloping : (l : ℕ) (a b : Pair) (ps : List Pair) → All (λ n. n .0 ≢ n .1) (backTo (a .x) (b .x) (xs ps)) → All (λ e. flat e ≡ false) (between l (backTo a b ps))
 unfolding between flat
 back-sloping l a b [] d = (eqZ-no (b .x) (a .x) (d .0), tt)
 back-sloping l a b (c ∷ ps) d = (eqZ-no (b .x) (c .x) (d .0), back-sloping l a c ps (d .1))
 
-ring-sloping : (l : ℕ) (ps : List Pair) → Each (λ n. n .0 ≢ n .1) (cyclic (xs ps)) → All (λ e. flat e ≡ false) (between l (cyclic ps))
+ring-sloping : (l : ℕ) (ps : List Pair) → All (λ n. n .0 ≢ n .1) (cyclic (xs ps)) → All (λ e. flat e ≡ false) (between l (cyclic ps))
 unfolding between
 ring-sloping l [] d = tt
 ring-sloping l (p ∷ ps) d = back-sloping l p p ps d
 
-rings-sound : (L : ℕ) (rs : List Ring) → Each (GoodRing L) rs → Sound 7 L (edgeList rs)
+rings-sound : (L : ℕ) (rs : List Ring) → All (GoodRing L) rs → Sound 7 L (edgeList rs)
 unfolding edgeList
 rings-sound L [] g = tt
 rings-sound L (r ∷ rs) g =
     all-append (λ e. soundEdge 7 L e ≡ true) (between (r .layer) (cyclic (r .pairs))) (edgeList rs) (ring-sound L (r .layer) (r .pairs) (g .0 .low) (g .0 .range)) (rings-sound L rs (g .1))
 
-rings-sloping : (L : ℕ) (rs : List Ring) → Each (GoodRing L) rs → All (λ e. flat e ≡ false) (edgeList rs)
+rings-sloping : (L : ℕ) (rs : List Ring) → All (GoodRing L) rs → All (λ e. flat e ≡ false) (edgeList rs)
 unfolding edgeList
 rings-sloping L [] g = tt
 rings-sloping L (r ∷ rs) g =
@@ -152,9 +152,7 @@ ring-edges-accepted L rs g =
     let n : length (ringEdges rs) ≡ 4 * pairsIn rs = ap length (edges-numbers rs) ∙ numbers-length (edgeList rs) ∙ ap (λ (k : ℕ). 4 * k) (edges-length rs) in
     let few = g .few in
     record {
-      fours = omega arith;
-      few = omega arith;
-      sound = subst (Sound 7 L) (sym (edges-are rs)) (rings-sound L rs (g .each));
+      list = record { fours = omega arith; few = omega arith; sound = subst (Sound 7 L) (sym (edges-are rs)) (rings-sound L rs (g .each)) };
       sloping = subst (All (λ e. flat e ≡ false)) (sym (edges-are rs)) (rings-sloping L rs (g .each));
       closed = subst Closed (sym (edges-are rs)) (up-to-closed (edgeList rs) (λ c i. rings-even c i rs));
     }

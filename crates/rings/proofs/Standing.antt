@@ -20,13 +20,14 @@ use lib.ListN.{length}
 use lib.Signed.{mag}
 use borrow.Author.Tests.{lt-ltb, le-ltb, le-leb, lt-leb, eq-eqb, ne-eqb}
 use Rattle.basics.specs.Signed.{keyOf, key-inj}
+use Rattle.basics.specs.Lists.{map-append}
 use Rattle.meaning.specs.Numbers.{pick, limit, inRange}
 use Rattle.meaning.specs.Answers.{answer}
-use Rattle.meaning.specs.Rings.{Pair, pair, Ring, ring, Each, xs, ys, pairsIn}
+use Rattle.meaning.specs.Rings.{Pair, pair, Ring, ring, All, xs, ys, pairsIn}
 use Rattle.meaning.specs.Faults.{Begun, at-layer, at-count, at-x, at-y, after, Beside, Judged, previousOr, previous}
 use Rattle.ringlaws.specs.Groups.{clash}
 use Rattle.ringlaws.specs.Differences.{pos-inj, in-range}
-use Rattle.ringlaws.specs.Neighbours.{map-snoc, previous-from}
+use Rattle.ringlaws.specs.Neighbours.{previous-from}
 use Rattle.ringlaws.specs.Beginnings.{Fine, FineAt, fine-layer, fine-count, count-few, fine-x, fine-y, layer-fine, count-fine, x-fine, y-fine, Good, pairs-snoc, length-snoc, length-xs, length-ys}
 use Rattle.ringlaws.specs.Forms.{range-xs, range-ys, previous-size}
 use Rattle.rings.specs.State.{start, outside, meets, coordinateFault, faultOf, firstOf, nextBy, nextOf, Sane}
@@ -65,7 +66,7 @@ module _ (L : ℕ) (h : L < 2147483648) where
   key-same y z i j e = key-inj y z (mag-below L y h i) (mag-below L z h j) e
 
   -- z, due after the coordinates zs of a ring of k pairs; d is any coordinate
-  pub meets-beside : (zs : List ℤ) (k : ℕ) (z d : ℤ) → length zs < k → Each (λ y. inRange L y ≡ true) zs → inRange L z ≡ true → (t : Bool) → meets (isNone zs) (k - suc (length zs)) (keyOf z) (keyOf (previous zs)) (keyOf (firstOr d zs)) ≡ t → (t ≡ true → Beside zs k z) × (t ≡ false → Beside zs k z → ⊥)
+  pub meets-beside : (zs : List ℤ) (k : ℕ) (z d : ℤ) → length zs < k → All (λ y. inRange L y ≡ true) zs → inRange L z ≡ true → (t : Bool) → meets (isNone zs) (k - suc (length zs)) (keyOf z) (keyOf (previous zs)) (keyOf (firstOr d zs)) ≡ t → (t ≡ true → Beside zs k z) × (t ≡ false → Beside zs k z → ⊥)
   meets-beside [] k z d s e i t q = (λ u. absurd (false≢true (q ∙ u)), λ u. none)
     where
       none : Beside [] k z → ⊥
@@ -145,7 +146,7 @@ verdict-count L rs l n p k = go (decLe 2 n) (decLe (pairsIn rs + n) 4096)
 
 module _ (L : ℕ) (h : L < 2147483648) where
   -- an x or a y: J is its table, and F says that it has no fault
-  verdict-coordinate : (zs : List ℤ) (k : ℕ) (z d : ℤ) → length zs < k → Each (λ y. inRange L y ≡ true) zs → (F : Type 0) (J : ℕ → Type 0) → (FineAt L zs k z → F) → (inRange L z ≡ false → J 15) → (inRange L z ≡ true → Beside zs k z → J 16) → (r : ℕ) → r ≡ coordinateFault L (isNone zs) (k - suc (length zs)) (keyOf z) (keyOf (previous zs)) (keyOf (firstOr d zs)) → (r ≡ 0 → F) × ((r ≡ 0 → ⊥) → J r)
+  verdict-coordinate : (zs : List ℤ) (k : ℕ) (z d : ℤ) → length zs < k → All (λ y. inRange L y ≡ true) zs → (F : Type 0) (J : ℕ → Type 0) → (FineAt L zs k z → F) → (inRange L z ≡ false → J 15) → (inRange L z ≡ true → Beside zs k z → J 16) → (r : ℕ) → r ≡ coordinateFault L (isNone zs) (k - suc (length zs)) (keyOf z) (keyOf (previous zs)) (keyOf (firstOr d zs)) → (r ≡ 0 → F) × ((r ≡ 0 → ⊥) → J r)
   verdict-coordinate zs k z d s e F J f j15 j16 r q = range (inRange L z) refl
     where
       m : Bool
@@ -208,7 +209,7 @@ next-state L (at-y rs l k ps x) z g f = go (ℕ-discrete (suc (length ps)) k)
         (ap start (omega (arith, pairs-snoc rs (ring l (ps ++ pair x z ∷ [])), length-snoc ps (pair x z))))
     go (no e) =
         let m : k - suc (length ps) - 1 ≡ k - suc (suc (length ps)) = omega arith in
-        rw (ne-eqb (k - suc (length ps)) 0 (λ q. omega (arith, g .0 .short)), ne-eqb (suc (length ps)) k e, map-snoc (λ q. q .x) ps (pair x z), map-snoc (λ q. q .y) ps (pair x z), previous-from (pos 0) (xs ps) x, previous-from (pos 0) (ys ps) z, first-snoc (xs ps) (pos 0) x, first-snoc (ys ps) (pos 0) z, none-snoc ps (pair x z), length-snoc ps (pair x z), first-key (ys ps) (isNone ps) (pos 0) z (sym (none-ys ps)), m)
+        rw (ne-eqb (k - suc (length ps)) 0 (λ q. omega (arith, g .0 .short)), ne-eqb (suc (length ps)) k e, map-append (λ q. q .x) ps (pair x z ∷ []), map-append (λ q. q .y) ps (pair x z ∷ []), previous-from (pos 0) (xs ps) x, previous-from (pos 0) (ys ps) z, first-snoc (xs ps) (pos 0) x, first-snoc (ys ps) (pos 0) z, none-snoc ps (pair x z), length-snoc ps (pair x z), first-key (ys ps) (isNone ps) (pos 0) z (sym (none-ys ps)), m)
 
 -- ---- bounds
 
@@ -216,7 +217,7 @@ key-most : (L : ℕ) (z : ℤ) → L ≤ 1073741824 → inRange L z ≡ true →
 key-most L (pos n) h e = omega (arith, in-range L (pos n) e)
 key-most L (negsuc n) h e = omega arith
 
-pub first-size : (L : ℕ) (d : ℤ) (zs : List ℤ) → inRange L d ≡ true → Each (λ z. inRange L z ≡ true) zs → inRange L (firstOr d zs) ≡ true
+pub first-size : (L : ℕ) (d : ℤ) (zs : List ℤ) → inRange L d ≡ true → All (λ z. inRange L z ≡ true) zs → inRange L (firstOr d zs) ≡ true
 first-size L d [] h e = h
 first-size L d (a ∷ l) h e = e .0
 

@@ -18,8 +18,9 @@ use native.Mathlib.Decide.{ℕ-discrete, decLt}
 use native.Mathlib.Omega.{arith}
 use lib.ListN.{length, getD, set, take, drop, take-append-drop, length-drop}
 use lib.Seq.{take-suc, take-length, length-take-le, getD-take, getD-drop, getD-set-same, getD-set-other}
+use Rattle.meaning.specs.Numbers.{pick}
 use Rattle.basics.specs.Sums.{sumOf, sum-append}
-use Rattle.sums.specs.Sums.{sumTo, where-true, Perm}
+use Rattle.sums.specs.Sums.{sumTo, Perm}
 
 pub below-or : (p q : ℕ) → (p < q) ⊎ (q ≤ p)
 below-or p q = go (decLt p q)
@@ -79,17 +80,17 @@ sum-zero (x ∷ xs) = omega (arith, sum-zero xs)
 
 pub prefix-sum : (words sorted : List ℕ) (m : ℕ) (t : ℕ → Bool) (g : ℕ → ℕ) → Perm sorted words → m ≤ length sorted
     → ((p : ℕ) → p < m → t (getD sorted p 0) ≡ true) → ((p : ℕ) → m ≤ p → p < length sorted → t (getD sorted p 0) ≡ false)
-    → sumOf g (take m sorted) ≡ sumOf (λ w. where-true (t w) (g w)) words
+    → sumOf g (take m sorted) ≡ sumOf (λ w. pick (t w) (g w) 0) words
 prefix-sum words sorted m t g perm fits first rest =
-    let f : ℕ → ℕ = λ w. where-true (t w) (g w) in
+    let f : ℕ → ℕ = λ w. pick (t w) (g w) 0 in
     let passed : sumOf f (take m sorted) ≡ sumOf g (take m sorted) =
     sum-same f g (take m sorted) 0
     (λ p h. let l : p < m = omega (arith, length-take-le m sorted fits) in
-    ap (λ b. where-true b (g (getD (take m sorted) p 0))) (ap t (getD-take m sorted p 0 l) ∙ first p l)) in
+    ap (λ b. pick b (g (getD (take m sorted) p 0)) 0) (ap t (getD-take m sorted p 0 l) ∙ first p l)) in
     let failed : sumOf f (drop m sorted) ≡ 0 =
     sum-same f (λ x. 0) (drop m sorted) 0
     (λ p h. let l : m + p < length sorted = omega (arith, length-drop m sorted) in
-    ap (λ b. where-true b (g (getD (drop m sorted) p 0))) (ap t (getD-drop m sorted p 0) ∙ rest (m + p) (omega arith) l))
+    ap (λ b. pick b (g (getD (drop m sorted) p 0)) 0) (ap t (getD-drop m sorted p 0) ∙ rest (m + p) (omega arith) l))
     ∙ sum-zero (drop m sorted) in
     omega (arith, passed, failed, sum-split f m sorted, perm f)
 

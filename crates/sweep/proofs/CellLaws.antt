@@ -9,19 +9,18 @@ use lib.IntN.{pos, _-ℤ_}
 use lib.ListN.{length, getD, take}
 use lib.Seq.{length-take-le, getD-take}
 use borrow.Author.Tests.{le-leb, lt-leb}
-use Rattle.meaning.specs.Numbers.{bit}
+use Rattle.meaning.specs.Numbers.{bit, pick}
 use Rattle.meaning.specs.Edges.{covers}
 use Rattle.grid.specs.Covering.{covers-same}
 use Rattle.grid.specs.Places.{Rising}
 use Rattle.basics.specs.Sums.{sumOf}
-use Rattle.sums.specs.Sums.{where-true}
+use Rattle.basics.specs.Bits.{ofBits-same}
 use Rattle.sums.specs.Laws.{perm-refl, sum-same, prefix-sum}
 use Rattle.ranks.specs.Ranks.{rank-leb}
 use Rattle.keys.specs.Key.{majorOf, minorOf, marked, hit, passed, Cut, KeysOk}
 use Rattle.rows.specs.Rows.{rowAt}
 use Rattle.advance.specs.Advanced.{Rows}
 use Rattle.covering.specs.Cover.{holdsOf, coversRow}
-use Rattle.covering.specs.CoverLaws.{no-same}
 use Rattle.corners.specs.Swept.{counted, cellOf}
 
 -- what the first e keys count, where they are those up to place number p, is what all keys up to that place count
@@ -30,28 +29,28 @@ counted-cut : (ks maj mnr : List ℕ) (w l p q e : ℕ) → Rising zero maj → 
 unfolding counted passed hit
 counted-cut ks maj mnr w l p q e rj rn ok hp hq cut =
     let t : ℕ → Bool = λ k. leb (getD maj (majorOf k) 0) (getD maj p 0) in
-    let g : ℕ → ℕ = λ k. where-true (leb (getD mnr (minorOf k) 0) (getD mnr q 0)) (bit (marked w l k)) in
-    let first : sumOf g (take e ks) ≡ sumOf (λ k. where-true (t k) (g k)) ks =
+    let g : ℕ → ℕ = λ k. pick (leb (getD mnr (minorOf k) 0) (getD mnr q 0)) (bit (marked w l k)) 0 in
+    let first : sumOf g (take e ks) ≡ sumOf (λ k. pick (t k) (g k) 0) ks =
     prefix-sum ks ks e t g (perm-refl ks) (cut .fits)
     (λ i h. rank-leb maj (majorOf (getD ks i 0)) p rj (ok .majors i (omega (arith, cut .fits))) hp ∙ le-leb (majorOf (getD ks i 0)) p (omega (arith, cut .low i h)))
     (λ i h h′. rank-leb maj (majorOf (getD ks i 0)) p rj (ok .majors i h′) hp ∙ lt-leb (majorOf (getD ks i 0)) p (omega (arith, cut .high i h h′))) in
     let long : length (take e ks) ≡ e = length-take-le e ks (cut .fits) in
     sym first
-    ∙ sum-same g (λ k. where-true (leb (minorOf k) q) (bit (marked w l k))) (take e ks) 0
+    ∙ sum-same g (λ k. pick (leb (minorOf k) q) (bit (marked w l k)) 0) (take e ks) 0
     (λ i h. let u : i < e = omega arith in
     rw (getD-take e ks i 0 u)
-    (ap (λ (b : Bool). where-true b (bit (marked w l (getD ks i 0)))) (rank-leb mnr (minorOf (getD ks i 0)) q rn (ok .minors i (omega (arith, cut .fits))) hq)))
+    (ap (λ (b : Bool). pick b (bit (marked w l (getD ks i 0))) 0) (rank-leb mnr (minorOf (getD ks i 0)) q rn (ok .minors i (omega (arith, cut .fits))) hq)))
 
 pub cell-row : (ks maj mnr c : List ℕ) (truth : List Bool) (p q e : ℕ) → Rising zero maj → Rising zero mnr → KeysOk ks (length maj) (length mnr) → p < length maj → q < length mnr → q < 8192 → Cut ks (p + 1) e → Rows ks e c →
     cellOf ks maj mnr truth (getD maj p 0) (getD mnr q 0) ≡ holdsOf truth (coversRow c q)
 unfolding cellOf holdsOf Rows
 cell-row ks maj mnr c truth p q e rj rn ok hp hq h cut R =
     ap (λ (m : ℕ). getD truth m false)
-    (no-same 8 _ _ (λ l hl.
+    (ofBits-same 8 _ _ (λ l hl.
     ap₂ (λ (m n : ℕ). covers (pos m -ℤ pos n)) (counted-cut ks maj mnr 1 l p q e rj rn ok hp hq cut) (counted-cut ks maj mnr 0 l p q e rj rn ok hp hq cut)
     ∙ covers-same (passed ks 1 l q e) (passed ks 0 l q e) (rowAt c l q) 8192 (omega (arith, R l q hl h))))
 
 -- rows that have the same counts are inside together
 pub flags-same : (c c′ : List ℕ) (truth : List Bool) (r : ℕ) → ((l : ℕ) → l < 8 → rowAt c l r ≡ rowAt c′ l r) → holdsOf truth (coversRow c r) ≡ holdsOf truth (coversRow c′ r)
 unfolding holdsOf
-flags-same c c′ truth r e = ap (λ (m : ℕ). getD truth m false) (no-same 8 _ _ (λ l hl. ap (λ (n : ℕ). covers (pos n -ℤ pos 8192)) (e l hl)))
+flags-same c c′ truth r e = ap (λ (m : ℕ). getD truth m false) (ofBits-same 8 _ _ (λ l hl. ap (λ (n : ℕ). covers (pos n -ℤ pos 8192)) (e l hl)))

@@ -10,6 +10,7 @@ use lib.IntN.{ℤ}
 use lib.ListN.{length, getD, drop, drop-of-length-le, replicate, length-replicate, getD-replicate}
 use lib.Seq.{drop-cons}
 use Rattle.meaning.specs.Records.{Record}
+use Rattle.basics.specs.Bits.{ofBits, ofBits-same}
 use Rattle.grid.specs.Covering.{covers-none}
 use Rattle.grid.specs.Plane.{recordAt, lineOver}
 use Rattle.grid.specs.Rows.{rows}
@@ -18,8 +19,7 @@ use Rattle.keys.specs.KeyLaws.{minor-less, passed-none}
 use Rattle.rows.specs.Rows.{rowAt}
 use Rattle.advance.specs.declared.Touched.{Touched}
 use Rattle.advance.specs.Advanced.{Rows, Advanced}
-use Rattle.covering.specs.Cover.{coverNo, holdsOf, coversRow, Flags, InsideOk}
-use Rattle.covering.specs.CoverLaws.{no-same}
+use Rattle.covering.specs.Cover.{holdsOf, coversRow, Flags, InsideOk}
 use Rattle.records.specs.Put.{Emitted}
 use Rattle.records.specs.Emitting.{Left, left-all, left-less, left-none}
 use Rattle.runs.specs.Stretches.{turnBy, Directs, LineIn}
@@ -200,9 +200,9 @@ sum-area {ks} {ys} {xs} {truth} r h w = record { weighed = w; cells = λ es F. a
 
 -- ---- the arrays before the first key
 
-none-covers : (c : List ℕ) (r : ℕ) → ((l : ℕ) → l < 8 → rowAt c l r ≡ 8192) → coverNo 8 (coversRow c r) ≡ 0
-unfolding coverNo
-none-covers c r e = no-same 8 (coversRow c r) (λ l. false) (λ l hl. covers-none (rowAt c l r) 8192 (e l hl))
+none-covers : (c : List ℕ) (r : ℕ) → ((l : ℕ) → l < 8 → rowAt c l r ≡ 8192) → ofBits 8 (coversRow c r) ≡ 0
+unfolding ofBits
+none-covers c r e = ofBits-same 8 (coversRow c r) (λ l. false) (λ l hl. covers-none (rowAt c l r) 8192 (e l hl))
 
 pub fresh-rows : (ks : List ℕ) (truth : List Bool) → Fresh ks truth (replicate 65536 8192) (replicate 8192 0) (replicate 8192 false) (replicate 8192 false)
 unfolding Rows holdsOf

@@ -9,7 +9,7 @@ use Rattle.meaning.specs.Numbers.{limit}
 use Rattle.meaning.specs.Edges.{edgesOf}
 use Rattle.basics.specs.Fours.{edges-length}
 use Rattle.closed.specs.Closing.{weighed}
-use Rattle.closed.specs.Gathered.{all-sound, layers-low, tags-low, corners-of}
+use Rattle.closed.specs.Gathered.{layers-low, tags-low, corners-of}
 use borrow.Author.Needs.{needs}
 use Rattle.closed.proofs.weigh_in.Statement.{statement}
 use Rattle.closed.proofs.weigh_in.Tie as tie
@@ -128,7 +128,7 @@ returns c =
     let g = c .before .before .before .before .before .before .before .before .before .before .before .before .before .before .before .before .before .before .before .before .before .before .before .before .before .before .before .before .before .before in
     let n = c .before .before .before .before .before .before .before .before .before .before .before .before .before .before .before .before in
     let w = c .before .before .before .before .before .before .weigh in
-    weighed limit (edgesOf (ns g)) (xs n) (tags n) (all-sound 7 limit (ns g) (s .pre .0))
+    weighed limit (edgesOf (ns g)) (xs n) (tags n) (s .pre .0 .sound)
     (corners-of limit (ns g) (s .pre .0) (s .args .ls .now) (s .args .ys .now) (s .args .fs .now) (s .args .ts .now) (ls g) (ys g) (fs g) (ts g) (g .gather .result) (g .gather .ensures) (xs n) (tags n) (ls-long g) (n .ends .ensures .0) (n .ends .ensures .1) (xs-long n))
     (w .result) (w .ensures)
 

@@ -6,7 +6,8 @@ use lib.ListN.{length}
 use Rattle.meaning.specs.Numbers.{limit}
 use Rattle.meaning.specs.Edges.{edgesOf}
 use Rattle.basics.specs.Fours.{none, edges-length, edges-at}
-use Rattle.columns.specs.Kept.{keeps, lifted, Taken, Columns}
+use Rattle.basics.specs.Sound.{lifted}
+use Rattle.columns.specs.Kept.{keeps, Taken, Columns}
 use Rattle.columns.specs.Laws.{firstKept, gather-start, gather-more, gather-end, gather-low}
 use borrow.Author.Needs.{needs}
 use Rattle.columns.proofs.gather.Statement.{statement}

@@ -8,7 +8,9 @@ use borrow.Author.Tests.{not-true, not-false}
 use Rattle.meaning.specs.Numbers.{limit}
 use Rattle.meaning.specs.Edges.{soundEdge}
 use Rattle.basics.specs.Fours.{edgeAt}
-use Rattle.columns.specs.Kept.{bitOf, keeps, lifted}
+use Rattle.basics.specs.Bits.{bitAt}
+use Rattle.basics.specs.Sound.{sound-at, lifted}
+use Rattle.columns.specs.Kept.{keeps}
 use Rattle.columns.specs.Laws.{taken-none, taken-one}
 use borrow.Author.Needs.{needs}
 use Rattle.columns.proofs.take_in.Statement.{statement}
@@ -16,7 +18,7 @@ use Rattle.columns.proofs.take_in.Tie as tie
 
 -- the record stands whole in the list, and is sound
 whole : (s : tie.Start) → (4 * s .args .k + 3 < length (s .args .edges .now)) × (soundEdge 7 limit (edgeAt (s .args .edges .now) (s .args .k)) ≡ true)
-whole s = (omega (arith, s .pre .0 .1), s .pre .0 .0 .each (s .args .k) (s .pre .0 .1))
+whole s = (omega (arith, s .pre .0 .1), sound-at 7 limit (s .args .edges .now) (s .args .k) (s .pre .0 .0 .sound) (s .pre .0 .1))
 
 layer-requires : tie.Need-layer-requires
 layer-requires c κs = whole (c .before .before .before .before)
@@ -27,7 +29,7 @@ is-kept-requires c κs = search needs
 -- what the test was told
 told : (c : tie.After-is-kept) → let s = c .before .before .before .before .before .before in c .is-kept .result ≡ keeps (s .args .used) (edgeAt (s .args .edges .now) (s .args .k))
 unfolding keeps edgeAt
-told c = c .is-kept .ensures ∙ ap (bitOf (c .before .before .before .before .before .before .args .used)) (c .before .layer .ensures .0)
+told c = c .is-kept .ensures ∙ ap (bitAt (c .before .before .before .before .before .before .args .used)) (c .before .layer .ensures .0)
 
 returns : tie.Need-returns
 returns c =

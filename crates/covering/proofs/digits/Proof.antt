@@ -2,7 +2,7 @@
 use borrow.Author.Needs.{needs}
 use native.Mathlib.Omega.{arith}
 use Prim.Native.Nat.{_-_, _≤_}
-use Rattle.covering.specs.CoverLaws.{bit-le}
+use Rattle.basics.specs.Tests.{bit-le}
 use Rattle.covering.specs.Cover.{coversRow, Digits}
 use Rattle.covering.proofs.Passes.{pass-start, digits-turn, pass-done}
 use Rattle.covering.proofs.digits.Statement.{statement}

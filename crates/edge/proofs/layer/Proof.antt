@@ -2,7 +2,8 @@
 use native.Mathlib.Omega.{arith}
 use Rattle.meaning.specs.Numbers.{limit}
 use Rattle.basics.specs.Fours.{part, edgeAt}
-use Rattle.edge.specs.Keys.{SoundParts, sound-parts, layer-above, layer-is, layer-low}
+use Rattle.basics.specs.Sound.{SoundParts, sound-parts, layer-low}
+use Rattle.edge.specs.Keys.{layer-above, layer-is}
 use borrow.Author.Needs.{needs}
 use Rattle.edge.proofs.layer.Statement.{statement}
 use Rattle.edge.proofs.layer.Tie as tie

@@ -1,0 +1,2 @@
+-- What the C functions promise beyond the calls that they hand on. Definitions only.
+pub mod Shown
