@@ -7,30 +7,17 @@ import collections
 import concurrent.futures
 import os
 import pathlib
-import platform
-import shutil
 import subprocess
 import sys
 
 import cells
 import generate
+import kit
 
 SEED = 20261115
 CASES = 3000
 NUMBERS = {0, 6, 7, 8, 9, 10, 11, 12, 13, 14, 15, 16, 17}
 PROGRAM = pathlib.Path(__file__).resolve().parent.parent / "target" / "bin" / "laukavesp"
-
-
-def command(program):
-    """The words that run a program here."""
-    rt = shutil.which("rt")
-    home = os.environ.get("RATTLE_HOME") or (rt and pathlib.Path(rt).resolve().parent.parent)
-    if not home:
-        return [str(program)]
-    tools = pathlib.Path(home) / "on" / platform.machine() / "toolchain"
-    emulator = tools / "bin" / "qemu-x86_64"
-    words = [emulator] if emulator.exists() else []
-    return [str(word) for word in words + [tools / "lib" / "ld-linux-x86-64.so.2", "--library-path", tools / "lib", program]]
 
 
 def printed(words, data):
@@ -43,7 +30,7 @@ def printed(words, data):
 
 
 def main():
-    words = command(pathlib.Path(sys.argv[1]).resolve() if sys.argv[1:] else PROGRAM)
+    words = kit.command(pathlib.Path(sys.argv[1]).resolve() if sys.argv[1:] else PROGRAM)
     inputs = list(generate.cases(SEED, CASES))
     given = collections.Counter()
     passed = failed = 0
