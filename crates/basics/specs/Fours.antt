@@ -5,14 +5,15 @@
 --   none            any edge, for what stands past the end of a list
 --   edges-length    there is an edge for each four numbers
 --   edges-at        and edge k is that of record k
+--   edges-beside    edges put at the end of a list
 --   layerOf, yOf, fromOf, toOf   the numbers of an edge
 use mathlib.Core.Path.{_≡_, refl, sym, ap, _∙_}
-use mathlib.Core.List.{List, [], _∷_}
-use Prim.Native.Nat.{ℕ, zero, suc, _+_, _*_, _/_, _<_}
+use mathlib.Core.List.{List, [], _∷_, _++_}
+use Prim.Native.Nat.{ℕ, zero, suc, _+_, _*_, _/_, _%_, _<_}
 use native.Mathlib.Omega.{arith}
 use lib.IntN.{ℤ, pos}
 use lib.ListN.{length, getD}
-use Rattle.meaning.specs.Edges.{Edge, edge, edgesOf}
+use Rattle.meaning.specs.Edges.{Edge, edge, edgesOf, edgeNumbers}
 
 abbrev pub part : List ℤ → ℕ → ℕ → ℤ
 part ns k j = getD ns (4 * k + j) (pos 0)
@@ -47,6 +48,15 @@ edges-at (l ∷ y ∷ f ∷ []) k d h = absurd (omega arith)
 edges-at (l ∷ y ∷ f ∷ t ∷ ns) zero d h = refl
 edges-at (l ∷ y ∷ f ∷ t ∷ ns) (suc k) d h =
     edges-at ns k d (omega arith) ∙ sym (rw (part-later l y f t ns k 0, part-later l y f t ns k 1, part-later l y f t ns k 2, part-later l y f t ns k 3))
+
+pub edges-beside : {A : Type 0} (ns : List A) (es : List (Edge A)) → length ns % 4 ≡ 0 → edgesOf (ns ++ edgeNumbers es) ≡ edgesOf ns ++ es
+unfolding edgesOf edgeNumbers
+edges-beside [] [] h = refl
+edges-beside [] (edge l y f t ∷ es) h = ap (_∷_ (edge l y f t)) (edges-beside [] es h)
+edges-beside (a ∷ []) es h = absurd (omega arith)
+edges-beside (a ∷ b ∷ []) es h = absurd (omega arith)
+edges-beside (a ∷ b ∷ c ∷ []) es h = absurd (omega arith)
+edges-beside (a ∷ b ∷ c ∷ d ∷ ns) es h = ap (_∷_ (edge a b c d)) (edges-beside ns es (omega arith))
 
 -- ---- columns
 

@@ -1,13 +1,15 @@
--- Lists: what holds of every element, and how many pass a test. Assumes nothing.
+-- Lists: what stands in one, what holds of every element, and how many pass a test. Assumes nothing.
 --
+--   At xs v              the number v stands somewhere in xs
 --   all-map, all-append, all-back, all-to-map   what holds of every element, `All P xs`: by a law, of lists put together and of their end, of images
 --   all-at, all-of       it holds of each by its place, and the way back
+--   allBy p xs           every element passes the test p; all-by: so it holds of every element
 --   number-same          tests that agree on every element count the same
 --   number-none          a test that no element passes counts none
 --   number-append, number-to-map   of lists put together, and of images
---   map-append           the image of lists put together
+--   map-append, map-at   the image of lists put together, and an element of an image
 use mathlib.Core.Path.{_≡_, refl, sym, ap, ap₂}
-use mathlib.Core.Bool.{Bool, false}
+use mathlib.Core.Bool.{Bool, true, false, _&&_}
 use mathlib.Core.List.{List, [], _∷_, _++_, map}
 use Prim.Native.Nat.{ℕ, zero, suc, _+_, _<_}
 use native.Mathlib.Omega.{arith}
@@ -15,7 +17,13 @@ use native.Mathlib.Nat.{zero-add, not-suc-le-zero, le-of-suc-le-suc}
 use lib.ListN.{length, getD}
 use Rattle.meaning.specs.Numbers.{bit}
 use Rattle.meaning.specs.Edges.{number}
+use Rattle.basics.specs.Tests.{and-left, and-right}
 pub use Rattle.meaning.specs.Rings.{All}
+
+pub record At (xs : List ℕ) (v : ℕ) : Type 0 where
+  pub place : ℕ
+  pub within : place < length xs
+  pub is : getD xs place 0 ≡ v
 
 pub all-map : {A : Type 0} (P Q : A → Type 0) (xs : List A) → ((x : A) → P x → Q x) → All P xs → All Q xs
 all-map P Q [] f h = tt
@@ -42,6 +50,15 @@ pub all-of : {A : Type 0} (P : A → Type 0) (xs : List A) (d : A) → ((k : ℕ
 all-of P [] d h = tt
 all-of P (x ∷ xs) d h = (h 0 (omega arith), all-of P xs d (λ k l. h (suc k) (omega arith)))
 
+unfoldable pub allBy : {A : Type 0} → (A → Bool) → List A → Bool
+allBy p [] = true
+allBy p (x ∷ xs) = p x && allBy p xs
+
+pub all-by : {A : Type 0} (p : A → Bool) (xs : List A) → allBy p xs ≡ true → All (λ x. p x ≡ true) xs
+unfolding allBy
+all-by p [] h = tt
+all-by p (x ∷ xs) h = (and-left (p x) (allBy p xs) h, all-by p xs (and-right (p x) (allBy p xs) h))
+
 pub number-same : {A : Type 0} (p q : A → Bool) (xs : List A) → All (λ x. p x ≡ q x) xs → number p xs ≡ number q xs
 unfolding number
 number-same p q [] h = refl
@@ -65,3 +82,8 @@ number-to-map p f (x ∷ xs) = ap (_+_ (bit (p (f x)))) (number-to-map p f xs)
 pub map-append : {A B : Type 0} (f : A → B) (xs ys : List A) → map f (xs ++ ys) ≡ map f xs ++ map f ys
 map-append f [] ys = refl
 map-append f (x ∷ xs) ys = ap (_∷_ (f x)) (map-append f xs ys)
+
+pub map-at : {A B : Type 0} (f : A → B) (xs : List A) (k : ℕ) (d : A) (e : B) → k < length xs → getD (map f xs) k e ≡ f (getD xs k d)
+map-at f [] k d e h = absurd (not-suc-le-zero h)
+map-at f (x ∷ xs) zero d e h = refl
+map-at f (x ∷ xs) (suc k) d e h = map-at f xs k d e (le-of-suc-le-suc h)

@@ -2,11 +2,11 @@
 --
 --   eqZ-refl, eqZ-yes, eqZ-no, eqZ-true, eqZ-false   what `eqZ` says; eqZ-natural: of a natural number
 --   not-leZ, lt-le-trans, le-trans-leZ, lt-not-le, le-not-lt, lt-le, pred-lt, lt-pred   tests of order
---   read32, read64       a number that was written as bits and read again
+--   read32               a number that was written as bits and read again; widens, widened: and handed on as one of 64 bits
 --   eq-bits              the machine's test of equality, which goes by the bits
 --   told-yes, told-no    what a call of a test says, where `if !test(x)` was not taken, or was
 --   within, outside      the two halves of a range test against `inRange`
---   keyOf, unkeyOf       z + 2^31 and back: orders and equations of 32-bit numbers are those of their keys (le-key, lt-key, eq-key, key-inj)
+--   keyOf, unkeyOf       z + 2^31 and back: orders and equations of 32-bit numbers are those of their keys (le-key, eq-key, key-inj)
 --   sub-pos, sub-neg, sub-same   a difference of naturals, by its sign; equal differences; minus-sub: the two ways to write it
 use mathlib.Core.Path.{_≡_, refl, sym, ap, _∙_, subst}
 use mathlib.Core.Bool.{Bool, true, false, not, true≢false, false≢true}
@@ -20,7 +20,7 @@ use lib.Dec.{leb, ltb, eqb, leb·suc-suc}
 use borrow.Author.Tests.{le-ltb, lt-ltb, le-leb, lt-leb, leb-true, ltb-true, ltb-false, eq-eqb, ne-eqb, eqb-true, not-true, not-false}
 use mir.Syntax.{Width, w32, w64}
 use mir.Val.{SFits, ofZ, toZ}
-use mir.Facts.{toZ-ofZ}
+use mir.Facts.{toZ-ofZ, sfits-widen}
 use Rattle.meaning.specs.Numbers.{eqZ}
 use Rattle.basics.specs.Tests.{not-leb, leb-same, eqb-same}
 
@@ -116,8 +116,12 @@ lt-pred n (negsuc b) p = absurd (false≢true p)
 pub read32 : (z : ℤ) → mag z < 2147483648 → toZ w32 (ofZ w32 z) ≡ z
 read32 z h = toZ-ofZ {w = w32} {z = z} (record { sfits = h })
 
-pub read64 : (z : ℤ) → mag z < 2 ^ 63 → toZ w64 (ofZ w64 z) ≡ z
-read64 z h = toZ-ofZ {w = w64} {z = z} (record { sfits = h })
+-- a number of 32 bits handed on as one of 64
+pub widens : (z : ℤ) → SFits w32 z → SFits w64 (toZ w32 (ofZ w32 z))
+widens z h = rw (toZ-ofZ h) (sfits-widen {w = w32} {w′ = w64} tt h)
+
+pub widened : (z : ℤ) → SFits w32 z → toZ w64 (ofZ w64 (toZ w32 (ofZ w32 z))) ≡ z
+widened z h = toZ-ofZ (widens z h) ∙ toZ-ofZ h
 
 pub eq-bits : (a b : ℤ) → mag a < 2147483648 → mag b < 2147483648 → eqb (ofZ w32 a) (ofZ w32 b) ≡ eqZ a b
 unfolding eqZ
@@ -193,12 +197,6 @@ le-key (pos a) (pos b) ha hb = leb-same a b (a + 2147483648) (b + 2147483648) (�
 le-key (pos a) (negsuc b) ha hb = sym (lt-leb (a + 2147483648) (2147483648 - suc b) (omega arith))
 le-key (negsuc a) (pos b) ha hb = sym (le-leb (2147483648 - suc a) (b + 2147483648) (omega arith))
 le-key (negsuc a) (negsuc b) ha hb = leb-same b a (2147483648 - suc a) (2147483648 - suc b) (λ h. omega arith) (λ h. omega arith)
-
-pub lt-key : (a b : ℤ) → mag a < 2147483648 → mag b < 2147483648 → ltZ a b ≡ ltb (keyOf a) (keyOf b)
-lt-key (pos a) (pos b) ha hb = leb-same (suc a) b (suc (a + 2147483648)) (b + 2147483648) (λ h. omega arith) (λ h. omega arith)
-lt-key (pos a) (negsuc b) ha hb = sym (le-ltb (a + 2147483648) (2147483648 - suc b) (omega arith))
-lt-key (negsuc a) (pos b) ha hb = sym (lt-ltb (2147483648 - suc a) (b + 2147483648) (omega arith))
-lt-key (negsuc a) (negsuc b) ha hb = leb-same (suc b) a (suc (2147483648 - suc a)) (2147483648 - suc b) (λ h. omega arith) (λ h. omega arith)
 
 pub key-inj : (a b : ℤ) → mag a < 2147483648 → mag b < 2147483648 → keyOf a ≡ keyOf b → a ≡ b
 key-inj (pos a) (pos b) ha hb e = ap pos (omega arith)

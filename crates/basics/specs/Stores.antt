@@ -3,7 +3,7 @@
 --   sets-append    a run of stores, and another right after it, are one
 --   sets-snoc      the same where the other is one store
 --   sets-all       stores from the front on, where there is room
---   left-over      what is left of a list after its front
+--   drop-past, left-over   what is left of a list after its front
 use mathlib.Core.Path.{_≡_, refl, sym, ap, _∙_}
 use mathlib.Core.List.{List, [], _∷_, _++_}
 use Prim.Native.Nat.{ℕ, suc, _+_, _≤_}
@@ -26,6 +26,9 @@ module _ {B : Type 0} where
   pub sets-all : (x out : List B) → length x ≤ length out → sets out 0 x ≡ x ++ drop (length x) out
   sets-all x out h = let e : 0 + length x ≡ length x = omega arith in sets-eq x out 0 (omega arith) ∙ ap (λ (m : ℕ). x ++ drop m out) e
 
+  pub drop-past : (f w rest : List B) (at : ℕ) → drop at f ≡ w ++ rest → drop (at + length w) f ≡ rest
+  drop-past f w rest at d = sym (drop-drop (length w) at f) ∙ ap (drop (length w)) d ∙ drop-at w rest (length w) refl
+
   -- a list is the front l and what stands from `at` on, which begins with w
   pub left-over : (l f w rest : List B) (at next : ℕ) → at ≡ length l → f ≡ l ++ drop at f → drop at f ≡ w ++ rest → next ≡ at + length w → drop next f ≡ rest
-  left-over l f w rest at next a e d n = ap (λ (k : ℕ). drop k f) n ∙ sym (drop-drop (length w) at f) ∙ ap (drop (length w)) d ∙ drop-at w rest (length w) refl
+  left-over l f w rest at next a e d n = ap (λ (k : ℕ). drop k f) n ∙ drop-past f w rest at d

@@ -2,11 +2,13 @@
 --
 --   sumOf f xs       the sum of f over xs
 --   sum-append, sum-map   of lists put together, and of images
+--   sum-all          of terms that are equal for every element
 use mathlib.Core.Path.{_≡_, refl, sym, ap}
 use mathlib.Core.List.{List, [], _∷_, _++_, map}
 use Prim.Native.Nat.{ℕ, _+_}
 use native.Mathlib.Omega.{arith}
 use native.Mathlib.Nat.{zero-add}
+use Rattle.basics.specs.Lists.{All}
 
 unfoldable pub sumOf : {A : Type 0} → (A → ℕ) → List A → ℕ
 sumOf f [] = 0
@@ -21,3 +23,8 @@ pub sum-map : {A B : Type 0} (f : B → ℕ) (g : A → B) (xs : List A) → sum
 unfolding sumOf
 sum-map f g [] = refl
 sum-map f g (x ∷ xs) = ap (_+_ (f (g x))) (sum-map f g xs)
+
+pub sum-all : {A : Type 0} (f g : A → ℕ) (xs : List A) → All (λ x. f x ≡ g x) xs → sumOf f xs ≡ sumOf g xs
+unfolding sumOf
+sum-all f g [] h = refl
+sum-all f g (x ∷ xs) h = omega (arith, h .0, sum-all f g xs (h .1))

@@ -2,18 +2,21 @@
 --
 --   and-left, and-right   what `p && q` says of each half
 --   and-off, and-on, or-true   `&&` and `||` with a half that is known
+--   not-self, is-other    a truth value is not its own contrary; what it is not, it is the contrary of
 --   bit-le                a truth value as a number is at most 1
+--   and-parts             two tests that exclude each other, and what they make together, behind one test
 --   not-leb               below is not at-or-above
+--   ltb-more              one number more is below
 --   leb-same, eqb-same    two tests that hold together are equal
 --   spans l h k           k is in the stretch from l up to h, h not included
 --   spans-in, ..          its value by where k lies; `place` has the three cases
-use mathlib.Core.Path.{_≡_, refl, sym, _∙_}
-use mathlib.Core.Bool.{Bool, true, false, not, _&&_, _||_, false≢true}
-use Prim.Native.Nat.{ℕ, _+_, _≤_, _<_}
+use mathlib.Core.Path.{_≡_, refl, sym, ap, _∙_}
+use mathlib.Core.Bool.{Bool, true, false, not, _&&_, _||_, true≢false, false≢true}
+use Prim.Native.Nat.{ℕ, suc, _+_, _≤_, _<_}
 use native.Mathlib.Omega.{arith}
-use native.Mathlib.Decide.{decLt}
+use native.Mathlib.Decide.{decLt, ℕ-discrete}
 use lib.Dec.{leb, ltb, eqb}
-use borrow.Author.Tests.{lt-ltb, le-ltb, le-leb, lt-leb, leb-true, eq-eqb, eqb-true}
+use borrow.Author.Tests.{lt-ltb, le-ltb, le-leb, lt-leb, leb-true, eq-eqb, ne-eqb, eqb-true}
 use Rattle.meaning.specs.Numbers.{bit}
 
 pub and-left : (p q : Bool) → (p && q) ≡ true → p ≡ true
@@ -36,9 +39,23 @@ pub or-true : (p : Bool) → (p || true) ≡ true
 or-true true = refl
 or-true false = refl
 
+pub not-self : (b : Bool) → b ≡ not b → ⊥
+not-self true e = true≢false e
+not-self false e = false≢true e
+
+pub is-other : (a b : Bool) → (a ≡ b → ⊥) → a ≡ not b
+is-other true true n = absurd (n refl)
+is-other true false n = refl
+is-other false true n = refl
+is-other false false n = absurd (n refl)
+
 pub bit-le : (b : Bool) → bit b ≤ 1
 bit-le true = omega arith
 bit-le false = omega arith
+
+pub and-parts : (t a b c : Bool) → bit a + bit b ≡ bit c → bit (t && a) + bit (t && b) ≡ bit (t && c)
+and-parts true a b c e = e
+and-parts false a b c e = refl
 
 pub not-leb : (k h : ℕ) → ltb k h ≡ not (leb h k)
 not-leb k h = go (decLt k h)
@@ -46,6 +63,15 @@ not-leb k h = go (decLt k h)
     go : Dec (k < h) → ltb k h ≡ not (leb h k)
     go (yes u) = rw (lt-ltb k h u, lt-leb h k u)
     go (no u) = rw (le-ltb k h (omega arith), le-leb h k (omega arith))
+
+pub ltb-more : (e k : ℕ) → bit (ltb e (suc k)) ≡ bit (ltb e k) + bit (eqb e k)
+ltb-more e k = go (decLt e k) (ℕ-discrete e k)
+  where
+    go : Dec (e < k) → Dec (e ≡ k) → bit (ltb e (suc k)) ≡ bit (ltb e k) + bit (eqb e k)
+    go (yes l) (yes q) = let z : ⊥ = omega arith in absurd z
+    go (yes l) (no q) = omega (arith, ap bit (lt-ltb e (suc k) (omega arith)), ap bit (lt-ltb e k l), ap bit (ne-eqb e k q))
+    go (no l) (yes q) = omega (arith, ap bit (lt-ltb e (suc k) (omega arith)), ap bit (le-ltb e k (omega arith)), ap bit (eq-eqb e k q))
+    go (no l) (no q) = omega (arith, ap bit (le-ltb e (suc k) (omega arith)), ap bit (le-ltb e k (omega arith)), ap bit (ne-eqb e k q))
 
 pub leb-same : (a b c d : ℕ) → (a ≤ b → c ≤ d) → (c ≤ d → a ≤ b) → leb a b ≡ leb c d
 leb-same a b c d f g = go (leb a b) (leb c d) refl refl

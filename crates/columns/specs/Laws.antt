@@ -10,13 +10,12 @@ use mathlib.Core.Path.{_≡_, refl, sym, ap, _∙_, subst}
 use mathlib.Core.Bool.{Bool, true, false, true≢false, false≢true}
 use mathlib.Core.List.{List, [], _∷_, _++_, map, append-nil}
 use Prim.Native.Nat.{ℕ, zero, suc, _+_, _≤_, _<_}
-use native.Mathlib.Nat.{not-suc-le-zero, le-of-suc-le-suc}
 use native.Mathlib.Numerals.{add-one}
 use native.Mathlib.Omega.{arith}
 use lib.IntN.{ℤ}
 use lib.ListN.{length, getD, set, take, drop, length-append, length-map, List·getD-append}
 use lib.Seq.{take-suc, drop-cons, set-at, append-snoc, length-take-le, take-all}
-use Rattle.basics.specs.Lists.{All, map-append}
+use Rattle.basics.specs.Lists.{All, map-append, map-at}
 use Rattle.basics.specs.Bits.{bitAt}
 use Rattle.basics.specs.Fours.{layerOf, yOf, fromOf, toOf}
 use Rattle.basics.specs.Sound.{lifted}
@@ -65,12 +64,7 @@ kept-all used (e ∷ es) h = ap (λ b. keepIf b e (kept used es)) (h .0) ∙ ap 
 
 pub over-at : (f : Edge ℕ → ℕ) (es : List (Edge ℕ)) (old : List ℕ) (j : ℕ) (d : Edge ℕ) → j < length es → getD (over (map f es) old) j 0 ≡ f (getD es j d)
 over-at f es old j d h =
-    List·getD-append (map f es) (drop (length (map f es)) old) 0 j (omega (arith, length-map es f)) ∙ at f es j d h
-  where
-    at : (f : Edge ℕ → ℕ) (es : List (Edge ℕ)) (j : ℕ) (d : Edge ℕ) → j < length es → getD (map f es) j 0 ≡ f (getD es j d)
-    at f [] j d h = absurd (not-suc-le-zero h)
-    at f (e ∷ es) zero d h = refl
-    at f (e ∷ es) (suc j) d h = at f es j d (le-of-suc-le-suc h)
+    List·getD-append (map f es) (drop (length (map f es)) old) 0 j (omega (arith, length-map es f)) ∙ map-at f es j d 0 h
 
 -- one more over the front
 over-more : (new old : List ℕ) (v n : ℕ) → length new ≡ n → n < length old → set (over new old) n v ≡ over (new ++ (v ∷ [])) old

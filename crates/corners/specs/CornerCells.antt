@@ -12,8 +12,8 @@ use Rattle.meaning.specs.Edges.{Edge, edge, number, covers}
 use Rattle.grid.specs.Plane.{insideN, xsOf, ysOf}
 use Rattle.grid.specs.Places.{has, has-head, Rising}
 use Rattle.grid.specs.Corners.{toBy, fromBy, tos, froms, covers-corners}
-use Rattle.basics.specs.Sums.{sumOf, sum-map}
-use Rattle.basics.specs.Lists.{All}
+use Rattle.basics.specs.Sums.{sumOf, sum-map, sum-all}
+use Rattle.basics.specs.Lists.{All, all-map}
 use Rattle.ranks.specs.Ranks.{rank, rank-in, has-cons}
 use Rattle.keys.specs.Key.{marked}
 use Rattle.keys.specs.KeyLaws.{major-key, minor-key, layer-key, way-key}
@@ -30,17 +30,15 @@ pub record Placed (maj mnr : List ℕ) (c : Corner) : Type 0 where
   pub layer-ok : c .layer < 8
   pub way-ok : c .way < 2
 
-pub sum-all : (P : Corner → Type 0) (f g : Corner → ℕ) (cs : List Corner) → All P cs → ((c : Corner) → P c → f c ≡ g c) → sumOf f cs ≡ sumOf g cs
-unfolding sumOf
-sum-all P f g [] a e = refl
-sum-all P f g (c ∷ cs) a e = ap₂ _+_ (e c (a .0)) (sum-all P f g cs (a .1) e)
+pub sum-placed : (maj mnr : List ℕ) (f g : Corner → ℕ) (cs : List Corner) → All (Placed maj mnr) cs → ((c : Corner) → Placed maj mnr c → f c ≡ g c) → sumOf f cs ≡ sumOf g cs
+sum-placed maj mnr f g cs a e = sum-all f g cs (all-map (Placed maj mnr) (λ c. f c ≡ g c) cs e a)
 
 counted-corners : (ks maj mnr : List ℕ) (cs : List Corner) (w l p q : ℕ) → Rising zero maj → Rising zero mnr → length mnr ≤ 8192 → All (Placed maj mnr) cs → Keyed maj mnr cs ks →
     counted ks maj mnr w l p q ≡ countIn cs w l p q
 unfolding counted countIn Keyed keyed marked
 counted-corners ks maj mnr cs w l p q rj rn few a K =
     K _ ∙ sum-map _ (keyed maj mnr) cs
-    ∙ sum-all (Placed maj mnr) _ _ cs a
+    ∙ sum-placed maj mnr _ _ cs a
     (λ c P. let i = rank-in zero maj (c .major) rj (P .across) in
     let j = rank-in zero mnr (c .minor) rn (P .along) in
     let n : rank mnr (c .minor) < 8192 = omega (arith, j .0) in

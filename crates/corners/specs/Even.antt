@@ -6,9 +6,9 @@ use mathlib.Core.List.{List, [], _∷_, map}
 use Prim.Native.Nat.{ℕ, zero, suc, _+_, _<_, _≤_}
 use native.Mathlib.Omega.{arith}
 use native.Mathlib.Decide.{decLt}
-use lib.Dec.{leb, ltb, eqb}
+use lib.Dec.{leb, ltb, eqb, leb·suc-suc}
 use lib.ListN.{length, getD, length-map}
-use borrow.Author.Tests.{le-leb, lt-leb, lt-ltb, le-ltb, ltb-true}
+use borrow.Author.Tests.{le-leb, lt-ltb, le-ltb, ltb-true}
 use Rattle.meaning.specs.Numbers.{bit, pick}
 use Rattle.meaning.specs.Edges.{Edge, edge, number}
 use Rattle.grid.specs.Plane.{ClosedN}
@@ -22,7 +22,7 @@ use Rattle.ranks.specs.Ranks.{rank, rank-in, rank-leb}
 use Rattle.keys.specs.Key.{majorOf, minorOf, marked, hit, passed, ByPoint, Cut, Even, KeysOk}
 use Rattle.keys.specs.KeyLaws.{major-key, minor-key, layer-key, way-key, minor-less}
 use Rattle.corners.specs.Corner.{Corner, cornersOf, keyed, Keyed}
-use Rattle.corners.specs.CornerCells.{Placed, sum-all}
+use Rattle.corners.specs.CornerCells.{Placed, sum-placed}
 
 none-each : (f : ℕ → ℕ) (xs : List ℕ) (i : ℕ) → sumOf f xs ≡ 0 → i < length xs → f (getD xs i 0) ≡ 0
 unfolding sumOf
@@ -49,7 +49,7 @@ module _ (maj mnr : List ℕ) (cs : List Corner) (ks : List ℕ) (rj : Rising ze
   unfolding Keyed
   each-key T h i l =
       not-bit (T (getD ks i 0)) (none-each (λ k. bit (not (T k))) ks i
-      (K (λ k. bit (not (T k))) ∙ sum-map (λ k. bit (not (T k))) (keyed maj mnr) cs ∙ sum-all (Placed maj mnr) _ (λ c. 0) cs a (λ c P. ap (λ (b : Bool). bit (not b)) (h c P)) ∙ none-sum cs) l)
+      (K (λ k. bit (not (T k))) ∙ sum-map (λ k. bit (not (T k))) (keyed maj mnr) cs ∙ sum-placed maj mnr _ (λ c. 0) cs a (λ c P. ap (λ (b : Bool). bit (not b)) (h c P)) ∙ none-sum cs) l)
 
   along-less : (c : Corner) → Placed maj mnr c → rank mnr (c .minor) < 8192
   along-less c P = omega (arith, rank-in zero mnr (c .minor) rn (P .along) .0)
@@ -68,7 +68,7 @@ module _ (maj mnr : List ℕ) (cs : List Corner) (ks : List ℕ) (rj : Rising ze
       prefix-sum (map (keyed maj mnr) cs) ks e (λ k. ltb (majorOf k) p) (hit w l 8191) K (cut .fits)
       (λ i h. lt-ltb (majorOf (getD ks i 0)) p (cut .low i h)) (λ i h h′. le-ltb (majorOf (getD ks i 0)) p (cut .high i h h′))
       ∙ sum-map _ (keyed maj mnr) cs
-      ∙ sum-all (Placed maj mnr) _ _ cs a
+      ∙ sum-placed maj mnr _ _ cs a
       (λ c P. rw (
         le-leb (minorOf (keyed maj mnr c)) 8191 (omega (arith, minor-less (keyed maj mnr c))),
         major-key (rank maj (c .major)) (rank mnr (c .minor)) (c .layer) (c .way) (along-less c P) (P .layer-ok) (P .way-ok),
@@ -127,20 +127,13 @@ data Same (T : ℕ → Bool) (xs : List ℕ) : Type 0 where
   all : (b : Bool) → ((v : ℕ) → has v xs ≡ true → T v ≡ b) → Same T xs
   col : (i : ℕ) → ((v : ℕ) → has v xs ≡ true → T v ≡ leb v i) → Same T xs
 
-leb-suc : (a k : ℕ) → ltb a (suc k) ≡ leb a k
-leb-suc a k = go (decLt k a)
-  where
-    go : Dec (k < a) → ltb a (suc k) ≡ leb a k
-    go (yes u) = rw (lt-leb a k u) (le-ltb a (suc k) (omega arith))
-    go (no u) = rw (le-leb a k (omega arith)) (lt-ltb a (suc k) (omega arith))
-
 by-rank : (xs : List ℕ) → Rising zero xs → (p : ℕ) → Same (λ v. ltb (rank xs v) p) xs
 by-rank xs r zero = all false (λ v h. le-ltb (rank xs v) zero (omega arith))
 by-rank xs r (suc k) = go (decLt k (length xs))
   where
     go : Dec (k < length xs) → Same (λ v. ltb (rank xs v) (suc k)) xs
     go (yes u) = col (getD xs k 0) (λ v h. let i = rank-in zero xs v r h in
-        leb-suc (rank xs v) k ∙ sym (rank-leb xs (rank xs v) k r (i .0) u) ∙ ap (λ (w : ℕ). leb w (getD xs k 0)) (i .1))
+        leb·suc-suc (rank xs v) k ∙ sym (rank-leb xs (rank xs v) k r (i .0) u) ∙ ap (λ (w : ℕ). leb w (getD xs k 0)) (i .1))
     go (no u) = all true (λ v h. lt-ltb (rank xs v) (suc k) (omega (arith, rank-in zero xs v r h .0)))
 
 -- the corners of kind 1 that pass a test of their column

@@ -14,7 +14,7 @@ use Rattle.meaning.specs.Edges.{Edge, edge}
 use Rattle.meaning.specs.Cells.{turn}
 use Rattle.meaning.specs.Records.{Record}
 use Rattle.grid.specs.Plane.{insideN, levelN, uprightN, kindN, kindAt, resultN, xsOf, ysOf}
-use Rattle.grid.specs.Places.{has, has-head}
+use Rattle.grid.specs.Places.{has, has-head, none-past}
 use Rattle.grid.specs.Compression.{row-same, row-early, row-late, col-same, col-early, level-jumps, level-none, upright-jumps, upright-none, kind-at}
 use Rattle.grid.specs.Rows.{turned, rows, rows-are}
 use Rattle.basics.specs.Sums.{sumOf}
@@ -39,13 +39,6 @@ each-le xs h i = go (decLt i (length xs))
     go : Dec (i < length xs) → getD xs i 0 ≤ 2147483648
     go (yes u) = h (getD xs i 0) (at-has (getD xs i 0) xs (record { place = i; within = u; is = refl }))
     go (no u) = omega (arith, List·getD-eq-default xs 0 {n = i} (omega arith))
-
-none-past : (xs : List ℕ) → ((v : ℕ) → has v xs ≡ true → v ≤ 2147483648) → (v : ℕ) → 2147483648 < v → has v xs ≡ false
-none-past xs h v l = go (has v xs) refl
-  where
-    go : (b : Bool) → has v xs ≡ b → has v xs ≡ false
-    go true e = let z : ⊥ = omega (arith, h v e) in absurd z
-    go false e = e
 
 length-level : (es : List (Edge ℕ)) → length (cornersOf 0 es) ≡ 2 * length es
 unfolding cornersOf
@@ -128,10 +121,10 @@ module _ {es : List (Edge ℕ)} {truth : List Bool} {xs ys : List ℕ} (S : Soun
   holds-none = S .empty
 
   past-x : (v : ℕ) → 2147483648 < v → has v (xsOf es) ≡ false
-  past-x v l = none-past (xsOf es) (S .range-x) v l
+  past-x v l = none-past 2147483648 (xsOf es) (S .range-x) v l
 
   past-y : (v : ℕ) → 2147483648 < v → has v (ysOf es) ≡ false
-  past-y v l = none-past (ysOf es) (S .range-y) v l
+  past-y v l = none-past 2147483648 (ysOf es) (S .range-y) v l
 
   -- only cells at the places themselves are looked at
   level-places : kindAt 0 (levelN (insideN (holdsOf truth) es)) ys xs ≡ rows 0 turn (λ y i. insideN (holdsOf truth) es i y) (λ k. false) ys xs

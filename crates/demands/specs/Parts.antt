@@ -2,24 +2,23 @@
 --
 --   whole-by-parts    WORK BY PARTS: with the part's kind 0 records put in as an unused letter's layer, the shortened text gives the whole's records
 --   and-plus-or       AND PLUS OR: the areas of `(s)*(t)` and `(s)+(t)` are together those of s and t
-use mathlib.Core.Path.{_≡_, refl, ap, ap₂, _∙_, fun-ext}
+use mathlib.Core.Path.{_≡_, ap, ap₂, _∙_, fun-ext}
 use mathlib.Core.Bool.{Bool, false, _&&_, _||_}
-use mathlib.Core.List.{List, [], _∷_, _++_}
+use mathlib.Core.List.{List, _∷_, _++_}
 use Prim.Native.Nat.{ℕ, _+_, _%_, _≤_}
 use Prim.Native.Char.{code}
-use native.Mathlib.Omega.{arith}
 use lib.Dec.{eqb}
 use lib.IntN.{ℤ}
-use lib.ListN.{length}
 use Rattle.meaning.specs.Numbers.{pick, limit}
 use Rattle.meaning.specs.Answers.{accepted}
-use Rattle.meaning.specs.Edges.{Edge, edge, edgesOf, edgeNumbers, on}
+use Rattle.meaning.specs.Edges.{Edge, edgesOf, edgeNumbers, on}
 use Rattle.meaning.specs.Expression.{Expr, Handed, nothing, with-layer, eval, sum, Is, Judged}
 use Rattle.meaning.specs.Cells.{handed, inside, Within}
 use Rattle.meaning.specs.Records.{result, putIn}
 use Rattle.meaning.specs.Area.{cells}
 use Rattle.meaning.specs.Calls.{cellsOf, recordsOf, areaOf}
 use Rattle.basics.specs.Lists.{All}
+use Rattle.basics.specs.Fours.{edges-beside}
 use Rattle.laws.specs.Covered.{inside-within}
 use Rattle.laws.specs.Accepting.{AcceptedEdges}
 use Rattle.laws.specs.Parts.{by-parts, cells-and-or}
@@ -27,17 +26,6 @@ use Rattle.expression_laws.specs.Meanings.{one-value, means-at}
 use Rattle.expression_laws.specs.Judging.{accepted-says}
 use Rattle.expression_laws.specs.Replace.{Unused}
 use Rattle.expression_laws.specs.Parts.{around, shorter-means, both, and-means, or-means}
-
--- ---- edges put at the end of a list
-
-pub edges-beside : {A : Type 0} (ns : List A) (es : List (Edge A)) → length ns % 4 ≡ 0 → edgesOf (ns ++ edgeNumbers es) ≡ edgesOf ns ++ es
-unfolding edgesOf edgeNumbers
-edges-beside [] [] h = refl
-edges-beside [] (edge l y f t ∷ es) h = ap (_∷_ (edge l y f t)) (edges-beside [] es h)
-edges-beside (a ∷ []) es h = absurd (omega arith)
-edges-beside (a ∷ b ∷ []) es h = absurd (omega arith)
-edges-beside (a ∷ b ∷ c ∷ []) es h = absurd (omega arith)
-edges-beside (a ∷ b ∷ c ∷ d ∷ ns) es h = ap (_∷_ (edge a b c d)) (edges-beside ns es (omega arith))
 
 -- an accepted text does not hold of nothing
 pub holds-not : (text : List ℕ) (e : Expr) → Judged text (accepted 0) → Is sum text e → eval (λ c. false) e ≡ false

@@ -6,7 +6,7 @@
 --   open-is          and where the list is not closed
 use mathlib.Core.Path.{_≡_, refl, sym, ap, _∙_, subst}
 use mathlib.Core.Bool.{Bool, true, false, not, _&&_}
-use mathlib.Core.List.{List, [], _∷_, _++_}
+use mathlib.Core.List.{List, _++_}
 use Prim.Native.Nat.{ℕ, _+_, _*_, _/_, _%_, _≤_}
 use native.Mathlib.Omega.{arith}
 use native.Mathlib.Nat.{le-refl}
@@ -16,12 +16,12 @@ use lib.ListN.{length, drop}
 use borrow.Author.Tests.{leb-true, eqb-true}
 use Rattle.meaning.specs.Numbers.{limit}
 use Rattle.meaning.specs.Answers.{Answer, accepted, First, not-closed}
-use Rattle.meaning.specs.Edges.{Edge, edgesOf, west, east, on, number, Closed, flat, edgeRows}
+use Rattle.meaning.specs.Edges.{Edge, edgesOf, west, east, on, number, Closed, soundEdge, flat, edgeRows}
 use Rattle.meaning.specs.Expression.{Expr, eval, sum, Is, Judged}
 use Rattle.meaning.specs.Records.{numbersOf}
 use Rattle.meaning.specs.Calls.{cellsOf, recordsOf, areaOf, outcome, callRows, Runs, Areas}
 use Rattle.basics.specs.Tests.{and-left, and-right}
-use Rattle.basics.specs.Lists.{All}
+use Rattle.basics.specs.Lists.{All, all-map, allBy, all-by}
 use Rattle.basics.specs.Sound.{Sound, SoundList}
 use Rattle.basics.specs.Sums.{sumOf}
 use Rattle.grid.specs.AreaLaws.{plus, minus}
@@ -30,19 +30,13 @@ use Rattle.expression_laws.specs.Meanings.{read-whole}
 use Rattle.expression_laws.specs.Judging.{answerTo, answerTo-right}
 use Rattle.laws.specs.Accepting.{Passed, edges-open, edges-pass, refused}
 use Rattle.demands.specs.Rows.{call-stops, call-text, run-refused, run-written, area-refused, area-given}
-use Rattle.examples.specs.Shown.{sound, fit, shown, levels, all-sound, fit-sound, fit-closed, result-shown, cells-shown}
-
-unfoldable pub sloping : List (Edge ℤ) → Bool
-sloping [] = true
-sloping (e ∷ es) = not (flat e) && sloping es
+use Rattle.examples.specs.Shown.{fit, shown, levels, fit-sound, fit-closed, result-shown, cells-shown}
 
 unfoldable pub shaped : List ℤ → Bool
-shaped ns = eqb (length ns % 4) 0 && (leb (length ns / 4) 4096 && sloping (edgesOf ns))
+shaped ns = eqb (length ns % 4) 0 && (leb (length ns / 4) 4096 && allBy (λ e. not (flat e)) (edgesOf ns))
 
-all-sloping : (es : List (Edge ℤ)) → sloping es ≡ true → All (λ e. flat e ≡ false) es
-unfolding sloping
-all-sloping [] h = tt
-all-sloping (e ∷ es) h = (off (flat e) (and-left (not (flat e)) (sloping es) h), all-sloping es (and-right (not (flat e)) (sloping es) h))
+all-sloping : (es : List (Edge ℤ)) → allBy (λ e. not (flat e)) es ≡ true → All (λ e. flat e ≡ false) es
+all-sloping es h = all-map (λ e. not (flat e) ≡ true) (λ e. flat e ≡ false) es (λ e u. off (flat e) u) (all-by (λ e. not (flat e)) es h)
   where
     off : (b : Bool) → not b ≡ true → b ≡ false
     off true h = sym h
@@ -64,11 +58,11 @@ module _ (ns : List ℤ) (h : shaped ns ≡ true) where
   unfolding shaped
   none-flat = all-sloping (edgesOf ns) (and-right (leb (length ns / 4) 4096) _ (and-right (eqb (length ns % 4) 0) _ h))
 
-  pub open-is : sound (edgesOf ns) ≡ true → (c : ℕ) (i : ℤ) → (number (λ e. on c e && west i e) (edgesOf ns) ≡ number (λ e. on c e && east i e) (edgesOf ns) → ⊥)
+  pub open-is : allBy (soundEdge 7 limit) (edgesOf ns) ≡ true → (c : ℕ) (i : ℤ) → (number (λ e. on c e && west i e) (edgesOf ns) ≡ number (λ e. on c e && east i e) (edgesOf ns) → ⊥)
       → (text : List ℕ) → ((out : List ℤ) → Runs ns text out (outcome not-closed out)) × Areas ns text not-closed
   unfolding Closed
   open-is s c i n text =
-      let x = call-stops ns text not-closed (edges-open 7 limit ns (list (all-sound (edgesOf ns) s)) none-flat (λ k. n (k c i))) (refused not-closed 0 (λ z. omega arith)) in
+      let x = call-stops ns text not-closed (edges-open 7 limit ns (list (all-by (soundEdge 7 limit) (edgesOf ns) s)) none-flat (λ k. n (k c i))) (refused not-closed 0 (λ z. omega arith)) in
       ((λ out. run-refused ns text out not-closed x (refused not-closed 0 (λ z. omega arith))), area-refused ns text not-closed x (refused not-closed 0 (λ z. omega arith)))
 
   module _ (fits : fit (edgesOf ns) ≡ true) (text : List ℕ) where

@@ -1,6 +1,5 @@
 -- How an example is computed: the result of a list that passes four tests is what its own places show. Assumes nothing.
 --
---   sound ns            every edge is sound, as a test
 --   stepsOf ns          the edges in steps
 --   shown holds ns      the records that the places of the edges show
 --   fit ns              the list is sound, closed, and within the range in steps, as a test
@@ -9,7 +8,7 @@
 --   fit-closed, fit-sound   what the test says
 use mathlib.Core.Path.{_≡_, ap, _∙_}
 use mathlib.Core.Bool.{Bool, true, false, _&&_}
-use mathlib.Core.List.{List, [], _∷_, map}
+use mathlib.Core.List.{List, map}
 use Prim.Native.Nat.{ℕ, _+_, _*_}
 use native.Mathlib.Omega.{arith}
 use lib.Dec.{leb}
@@ -23,22 +22,19 @@ use Rattle.basics.specs.Tests.{and-left, and-right}
 use Rattle.basics.specs.Sound.{Sound, lifted}
 use Rattle.grid.specs.Plane.{insideN, levelN, kindN, kindAt, resultN, resultAt, xsOf, ysOf, sorted, ClosedN}
 use Rattle.grid.specs.Compression.{result-sorted, levels-sorted}
-use Rattle.grid.specs.ClosedTest.{allBy, closedTest, closed-by, within-all}
+use Rattle.grid.specs.ClosedTest.{closedTest, closed-by, within-all}
 use Rattle.basics.specs.Sums.{sumOf}
 use Rattle.basics.specs.Steps.{lowered}
+use Rattle.basics.specs.Lists.{allBy, all-by}
 use Rattle.grid.specs.AreaLaws.{plus, minus, area}
 use Rattle.laws.specs.View.{view, result-view, cells-view, within-bounded}
 use Rattle.laws.specs.Covered.{inside-view, view-closed, inside-within}
-
-unfoldable pub sound : List (Edge ℤ) → Bool
-sound [] = true
-sound (e ∷ es) = soundEdge 7 limit e && sound es
 
 abbrev pub stepsOf : List (Edge ℤ) → List (Edge ℕ)
 stepsOf es = map (lifted limit) es
 
 unfoldable pub fit : List (Edge ℤ) → Bool
-fit es = sound es && (closedTest (stepsOf es) && (allBy (λ p. leb p (2 * limit)) (xsOf (stepsOf es)) && allBy (λ p. leb p (2 * limit)) (ysOf (stepsOf es))))
+fit es = allBy (soundEdge 7 limit) es && (closedTest (stepsOf es) && (allBy (λ p. leb p (2 * limit)) (xsOf (stepsOf es)) && allBy (λ p. leb p (2 * limit)) (ysOf (stepsOf es))))
 
 unfoldable pub shown : ((ℕ → Bool) → Bool) → List (Edge ℤ) → List (Record ℤ)
 shown holds es = map (lowered limit) (resultAt (insideN holds (stepsOf es)) (sorted (xsOf (stepsOf es))) (sorted (ysOf (stepsOf es))))
@@ -46,19 +42,14 @@ shown holds es = map (lowered limit) (resultAt (insideN holds (stepsOf es)) (sor
 unfoldable pub levels : ((ℕ → Bool) → Bool) → List (Edge ℤ) → List (Record ℕ)
 levels holds es = kindAt 0 (levelN (insideN holds (stepsOf es))) (sorted (ysOf (stepsOf es))) (sorted (xsOf (stepsOf es)))
 
-pub all-sound : (es : List (Edge ℤ)) → sound es ≡ true → Sound 7 limit es
-unfolding sound
-all-sound [] h = tt
-all-sound (e ∷ es) h = (and-left (soundEdge 7 limit e) (sound es) h, all-sound es (and-right (soundEdge 7 limit e) (sound es) h))
-
 module _ (es : List (Edge ℤ)) (h : fit es ≡ true) where
   pub fit-sound : Sound 7 limit es
   unfolding fit
-  fit-sound = all-sound es (and-left (sound es) _ h)
+  fit-sound = all-by (soundEdge 7 limit) es (and-left (allBy (soundEdge 7 limit) es) _ h)
 
   rest : (closedTest (stepsOf es) && (allBy (λ p. leb p (2 * limit)) (xsOf (stepsOf es)) && allBy (λ p. leb p (2 * limit)) (ysOf (stepsOf es)))) ≡ true
   unfolding fit
-  rest = and-right (sound es) _ h
+  rest = and-right (allBy (soundEdge 7 limit) es) _ h
 
   fit-closedN : ClosedN (stepsOf es)
   fit-closedN = closed-by (stepsOf es) (and-left (closedTest (stepsOf es)) _ rest)

@@ -21,11 +21,11 @@ use Rattle.meaning.specs.MaskFile.{spelt, five, signed}
 use Rattle.meaning.specs.Faults.{Read}
 use Rattle.meaning.specs.Calls.{outcome, Runs, Areas}
 use Rattle.basics.specs.Tests.{spans}
-use Rattle.basics.specs.Lists.{All}
+use Rattle.basics.specs.Lists.{All, allBy}
 use Rattle.basics.specs.Steps.{lift}
 use Rattle.basics.specs.Sound.{lifted}
 use Rattle.grid.specs.Plane.{goesWest, goesEast, upToN, westsN, eastsN, coversN, insideN, levelN, uprightN, lineAt, lineOver, eachOf, kindAt, resultAt, xsOf, ysOf, insertIf, insert, sorted}
-use Rattle.grid.specs.ClosedTest.{allBy, closedTest, closedOver, layersOf}
+use Rattle.grid.specs.ClosedTest.{closedTest, closedOver, layersOf}
 use Rattle.basics.specs.Sums.{sumOf}
 use Rattle.expression_laws.specs.Reader.{letterAt, read, reads}
 use Rattle.expression_laws.specs.Judging.{answerTo}
@@ -34,8 +34,8 @@ use Rattle.drawing.specs.Drawing.{Drawing}
 use Rattle.drawing.specs.declared.Drawn.{Drawn}
 use Rattle.drawing.specs.declared.Drawn.the-variants.{Level, Upright, Refused}
 use Rattle.drawing.proofs.Examples.{carried, example-10}
-use Rattle.examples.specs.Shown.{sound, fit, shown, levels}
-use Rattle.examples.specs.Runs.{sloping, shaped, run-is, area-is, refusal-is, open-is}
+use Rattle.examples.specs.Shown.{fit, shown, levels}
+use Rattle.examples.specs.Runs.{shaped, run-is, area-is, refusal-is, open-is}
 
 pub data Example : Type 0 where
   -- the edge list and the text give these records, as numbers, so many of them, and this area
@@ -122,7 +122,7 @@ table =
     ∷ []
 
 pub checked : All Right table
-unfolding bytes fit sound soundEdge flat sloping shaped edgesOf closedTest closedOver layersOf allBy xsOf ysOf lifted lift number goesWest goesEast spans on west east shown levels numbersOf step upToN westsN eastsN coversN covers insideN levelN uprightN lineAt lineOver eachOf kindAt resultAt insertIf insert sorted eqZ sumOf answerTo reads read letterAt eval
+unfolding bytes fit soundEdge flat shaped edgesOf closedTest closedOver layersOf allBy xsOf ysOf lifted lift number goesWest goesEast spans on west east shown levels numbersOf step upToN westsN eastsN coversN covers insideN levelN uprightN lineAt lineOver eachOf kindAt resultAt insertIf insert sorted eqZ sumOf answerTo reads read letterAt eval
 checked = (
   (run-is both refl refl (bytes "a*b") _ refl refl refl _ _ refl refl, area-is both refl refl (bytes "a*b") _ refl refl refl _ refl),
   (

@@ -10,8 +10,9 @@ use Prim.Native.Char.{code}
 use native.Mathlib.Nat.{add-zero}
 use native.Mathlib.Omega.{arith}
 use lib.ListN.{length, getD, drop, length-append}
-use lib.Seq.{drop-drop, getD-drop, drop-append-seam}
+use lib.Seq.{drop-drop, getD-drop}
 use Rattle.meaning.specs.Expression.{Operator, Expr, negated, joined, and, and-not, or, exclusive-or, Level, factor, product, sum, Is, a-letter, not-before, in-parentheses, one-factor, times, minus, one-product, plus, caret}
+use Rattle.basics.specs.Stores.{drop-past}
 use Rattle.expression_laws.specs.Reader.{got, tight, loose, operatorOf, Part, a-factor, a-product, a-sum, product-on, sum-on, reads}
 use Rattle.expression_laws.specs.Steps.{at-not, at-open, at-letter, Chain, product-chain, sum-chain, chain-starts, chain-stops, chain-goes-on}
 
@@ -23,9 +24,6 @@ head-at s at e = ap (λ n. getD s n 0) (sym (add-zero at)) ∙ sym (getD-drop at
 tail-at : (s : List ℕ) (at : ℕ) {b : ℕ} {rest : List ℕ} → drop at s ≡ b ∷ rest → drop (at + 1) s ≡ rest
 tail-at s at e = sym (drop-drop 1 at s) ∙ ap (drop 1) e
 
-after : (s : List ℕ) (at : ℕ) (t : List ℕ) {rest : List ℕ} → drop at s ≡ t ++ rest → drop (at + length t) s ≡ rest
-after s at t {rest} e = sym (drop-drop (length t) at s) ∙ ap (drop (length t)) e ∙ drop-append-seam t rest
-
 module _ (s : List ℕ) where
   abbrev Reads : Level → ℕ → ℕ → Expr → Type 0
   Reads factor at i e = reads s a-factor at ≡ got e i
@@ -35,7 +33,7 @@ module _ (s : List ℕ) where
   -- the text t, the byte b of the operator o and the text u
   module _ (b : ℕ) (o : Operator) (b-is : operatorOf b ≡ o) (at : ℕ) (t u : List ℕ) (rest : List ℕ) (d : drop at s ≡ (t ++ (b ∷ u)) ++ rest) where
     op-at : drop (at + length t) s ≡ b ∷ (u ++ rest)
-    op-at = after s at t (d ∙ append-assoc t (b ∷ u) rest)
+    op-at = drop-past s t _ at (d ∙ append-assoc t (b ∷ u) rest)
 
     op-is : getD s (at + length t) 0 ≡ b
     op-is = head-at s (at + length t) op-at
@@ -67,7 +65,7 @@ module _ (s : List ℕ) where
       at-not s at (head-at s at d) ∙ simp k (ap (λ z. got (negated e) z) n)
   complete (in-parentheses {t} {e} is) at rest d =
       let d′ : drop (at + 1) s ≡ t ++ (code ")" ∷ rest) = tail-at s at d ∙ append-assoc t (code ")" ∷ []) rest in
-      let h = head-at s (at + 1 + length t) (after s (at + 1) t d′) in
+      let h = head-at s (at + 1 + length t) (drop-past s t _ (at + 1) d′) in
       let k = chain-stops (sum-chain s) (at + 1) (complete is (at + 1) (code ")" ∷ rest) d′ (ap tight h)) (ap loose h) in
       let n : at + 1 + length t + 1 ≡ at + suc (length (t ++ (code ")" ∷ []))) = omega (arith, length-append t (code ")" ∷ [])) in
       at-open s at (head-at s at d) ∙ simp (k, h) (ap (λ z. got e z) n)
@@ -88,5 +86,5 @@ module _ (s : List ℕ) where
 
   pub closed : {t : List ℕ} {e : Expr} → Is sum t e → (at : ℕ) (rest : List ℕ) → drop at s ≡ t ++ (code ")" ∷ rest) → reads s a-sum at ≡ got e (at + length t)
   closed {t} is at rest d =
-      let h = head-at s (at + length t) (after s at t d) in
+      let h = head-at s (at + length t) (drop-past s t _ at d) in
       chain-stops (sum-chain s) at (complete is at (code ")" ∷ rest) d (ap tight h)) (ap loose h)

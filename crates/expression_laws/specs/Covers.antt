@@ -17,7 +17,7 @@
 --   left-out             layers with which the entries do not change have no part in them
 use mathlib.Core.Path.{_≡_, refl, sym, ap, _∙_}
 use mathlib.Core.Logic.{_⊎_, inl, inr}
-use mathlib.Core.Bool.{Bool, true, false, not, true≢false, false≢true}
+use mathlib.Core.Bool.{Bool, true, false, true≢false, false≢true}
 use mathlib.Core.List.{List}
 use Prim.Native.Nat.{ℕ, zero, suc, _≤_, _<_}
 use native.Mathlib.Nat.{zero-div}
@@ -30,6 +30,7 @@ use borrow.Author.Tests.{lt-ltb, le-ltb}
 use Rattle.meaning.specs.Numbers.{pick}
 use Rattle.meaning.specs.Expression.{Handed, nothing, eval, InGrammar, Means, Depends}
 use Rattle.basics.specs.Bits.{bitAt, ofBits-below, ofBits-same, bitAt-ofBits, ofBits-bitAt}
+use Rattle.basics.specs.Tests.{not-self, is-other}
 use Rattle.expression_laws.specs.Cover.{coverOf, byteOf, Entry, Table, Changes, Letters}
 use Rattle.expression_laws.specs.Meanings.{one-value, decided, means-at, means-same}
 
@@ -95,16 +96,6 @@ module _ {s : List ℕ} {truth : List Bool} (t : Table s truth) where
 
 -- ---- the layers on which an expression depends
 
-not-same : (v : Bool) → v ≡ not v → ⊥
-not-same true e = true≢false e
-not-same false e = false≢true e
-
-other-value : (v w : Bool) → (v ≡ w → ⊥) → not v ≡ w
-other-value true true f = absurd (f refl)
-other-value true false f = refl
-other-value false true f = refl
-other-value false false f = absurd (f refl)
-
 same-or-not : (v w : Bool) → (v ≡ w) ⊎ (v ≡ w → ⊥)
 same-or-not true true = inl refl
 same-or-not true false = inr true≢false
@@ -117,7 +108,7 @@ depends-changes t l d =
       one = d .one;
       other = d .other;
       alike = d .alike;
-      differ = λ e. not-same (d .value) (sym (looked-up t (d .one) (d .at-one)) ∙ e ∙ looked-up t (d .other) (d .at-other));
+      differ = λ e. not-self (d .value) (sym (looked-up t (d .one) (d .at-one)) ∙ e ∙ looked-up t (d .other) (d .at-other));
     }
 
 pub changes-depends : {s : List ℕ} {truth : List Bool} → Table s truth → (l : ℕ) → Changes truth l → Depends s l
@@ -131,7 +122,7 @@ changes-depends {s} {truth} t l c = go (decided s)
           alike = c .alike;
           value = getD truth (byteOf (c .one)) false;
           at-one = means-looked-up t x (c .one);
-          at-other = rw (other-value (getD truth (byteOf (c .one)) false) (getD truth (byteOf (c .other)) false) (c .differ)) (means-looked-up t x (c .other));
+          at-other = rw (← is-other (getD truth (byteOf (c .other)) false) (getD truth (byteOf (c .one)) false) (λ e. c .differ (sym e))) (means-looked-up t x (c .other));
         }
     go (no f) = absurd (c .differ (outside t f (c .one) ∙ sym (outside t f (c .other))))
 
@@ -205,7 +196,7 @@ unseen {s} {g} {h} m n agree =
       alike = alike;
       value = eval one (m .expr);
       at-one = means-at s x one;
-      at-other = rw (other-value (eval one (m .expr)) (eval other (m .expr)) f) (means-at s x other);
+      at-other = rw (← is-other (eval other (m .expr)) (eval one (m .expr)) (λ e. f (sym e))) (means-at s x other);
     }))
     ∙ one-value s (means-at s x h) n
   where

@@ -23,7 +23,8 @@ use Rattle.axis.specs.Axes.{Ranks}
 use Rattle.arrange.specs.Events.{eventOf, eventAt, Arranged}
 use Rattle.ordering.specs.Both.{Corners}
 use Rattle.basics.specs.Fours.{layerOf, yOf, fromOf, toOf}
-use Rattle.ranks.specs.Ranks.{rank, rank-is, rising-of, At, has-same}
+use Rattle.basics.specs.Lists.{At}
+use Rattle.ranks.specs.Ranks.{rank, rank-is, rising-of, has-same}
 use Rattle.keys.specs.Key.{keyOf}
 use Rattle.corners.specs.Corner.{cornersOf, keyed, Keyed}
 use Rattle.corners.specs.Fed.{Sound, Tables, Ordered, Fed}
@@ -82,7 +83,7 @@ ranked keys values rs r R =
       rising = rising-of (take r values) (λ p q h l. let u : q < r = omega (arith, long) in omega (arith, at p (omega arith), at q u, R .rising p q h u));
       low = λ i h. omega (arith, long, R .low i h);
       is = λ i h. at (getD rs i 0) (R .low i h) ∙ R .is i h;
-      every = λ k h. let u : k < r = omega (arith, long) in let m = R .every k u in record { place = m .at; within = m .within; is = m .is ∙ sym (at k u) };
+      every = λ k h. let u : k < r = omega (arith, long) in let m = R .every k u in record { place = m .place; within = m .within; is = m .is ∙ sym (at k u) };
     }
 
 module _ {keys vs rs : List ℕ} (R : Ranked keys vs rs) where

@@ -114,7 +114,7 @@ minus (rec kind y f t) = y * (f - t)
 times-parts : (y m n k : ℕ) → m + n ≡ k → y * m + y * n ≡ y * k
 times-parts y m n k e = sym (mul-add y m n) ∙ ap (_*_ y) e
 
-times-none : (y m : ℕ) → m ≡ 0 → y * m ≡ 0
+pub times-none : (y m : ℕ) → m ≡ 0 → y * m ≡ 0
 times-none y m e = ap (_*_ y) e ∙ mul-zero y
 
 pub plus-additive : (kind y : ℕ) → Additive (λ r. plus (recordAt kind y r))

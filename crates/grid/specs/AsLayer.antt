@@ -8,7 +8,7 @@ use native.Mathlib.Omega.{arith}
 use native.Mathlib.Decide.{decLt}
 use native.Mathlib.Nat.{zero-add, add-zero, add-mul, mul-one, mul-zero}
 use lib.Dec.{leb, eqb}
-use borrow.Author.Tests.{eq-eqb, ne-eqb, le-leb, lt-leb}
+use borrow.Author.Tests.{eq-eqb, le-leb, lt-leb}
 use Rattle.meaning.specs.Numbers.{bit}
 use Rattle.meaning.specs.Cells.{Dir, off, fwd, bwd}
 use Rattle.meaning.specs.Records.{run, Record, rec}
@@ -17,6 +17,7 @@ use Rattle.meaning.specs.Area.{total}
 use Rattle.basics.specs.Tests.{spans-parts, spans-empty, spans, spans-in, spans-below, spans-above}
 use Rattle.grid.specs.Plane.{goesWest, goesEast, upToN, westsN, eastsN, levelN, recordAt, kindN}
 use Rattle.basics.specs.Sums.{sumOf, sum-map}
+use Rattle.basics.specs.Fours.{yOf}
 use Rattle.grid.specs.Sums.{total-same, total-zero, total-add, total-split, total-one}
 use Rattle.grid.specs.AreaLaws.{cellsN, Additive, sum-kind, east, west, stepN, climb}
 
@@ -68,9 +69,6 @@ masked-on t u s e = factor t s u ∙ ap (λ (b : Bool). bit b * bit (t && u)) e
 masked-off : (t u s : Bool) → s ≡ false → bit ((t && s) && u) ≡ 0
 masked-off true u s e = rw e
 masked-off false u s e = refl
-
-abbrev pub yOf : Edge ℕ → ℕ
-yOf (edge l y f t) = y
 
 pub piece-off : (i k : ℕ) → k ≢ i → spans k (suc k) i ≡ false
 piece-off i k n = go (decLt i k)
@@ -216,17 +214,3 @@ module _ (c N : ℕ) (g : ℕ → ℕ → Bool) where
       let e : eastsN layer c i j ≡ total (λ y. east (stepN (g i) y)) 0 (suc j) = easts-are c i j ∙ east-in c c i (λ y. leb y j) N g p ∙ cut (λ y. east (stepN (g i) y)) (eqb c c) j N t q in
       let z : bit (g i (0 + j)) ≡ bit (g i j) = ap (λ (k : ℕ). bit (g i k)) (zero-add j) in
       omega (arith, w, e, climb (g i) 0 j, z)
-
-  -- other layers have nothing of it
-  pub layer-other : (b i j : ℕ) → c ≢ b → (westsN layer b i j ≡ 0) × (eastsN layer b i j ≡ 0)
-  layer-other b i j n = go (decLt i N) (ne-eqb c b n)
-    where
-      go : Dec (i < N) → eqb c b ≡ false → (westsN layer b i j ≡ 0) × (eastsN layer b i j ≡ 0)
-      go (yes p) e = (
-        wests-are b i j ∙ west-in c b i (λ y. leb y j) N g p ∙ nowhere (λ y. west (stepN (g i) y)) (λ y. leb y j) (eqb c b) (suc N) e,
-        easts-are b i j ∙ east-in c b i (λ y. leb y j) N g p ∙ nowhere (λ y. east (stepN (g i) y)) (λ y. leb y j) (eqb c b) (suc N) e,
-      )
-      go (no p) e = (
-        wests-are b i j ∙ west-out c b i (λ y. leb y j) N g (omega arith),
-        easts-are b i j ∙ east-out c b i (λ y. leb y j) N g (omega arith),
-      )

@@ -11,8 +11,7 @@ use Rattle.meaning.specs.Numbers.{bit}
 use Rattle.meaning.specs.Edges.{Edge, number}
 use Rattle.meaning.specs.Area.{total}
 use Rattle.basics.specs.Tests.{and-on}
-use Rattle.grid.specs.Plane.{ClosedN, goesWest, goesEast, westsN, eastsN, coversN}
-use Rattle.grid.specs.Covering.{covers-one}
+use Rattle.grid.specs.Plane.{ClosedN, goesWest, goesEast, westsN, eastsN}
 use Rattle.grid.specs.Sums.{total-same}
 use Rattle.grid.specs.AreaLaws.{east, west, stepN, climb}
 use Rattle.grid.specs.AsLayer.{layer, these, west-in, east-in, west-out, east-out, wests-are, easts-are, layer-number, whole, nowhere}
@@ -44,10 +43,6 @@ module _ (c N : ℕ) (g : ℕ → ℕ → Bool) (B : Bounded N g) where
           let w : westsN (layer c N g) c i j ≡ 0 = wests-are c N g c i j ∙ west-out c c i (λ y. leb y j) N g (omega arith) in
           let e : eastsN (layer c N g) c i j ≡ 0 = easts-are c N g c i j ∙ east-out c c i (λ y. leb y j) N g (omega arith) in
           rw (B .right i j (omega arith)) (omega arith)
-
-  pub layer-covers : (i j : ℕ) → coversN (layer c N g) i j c ≡ g i j
-  unfolding coversN
-  layer-covers i j = covers-one (westsN (layer c N g) c i j) (eastsN (layer c N g) c i j) (g i j) (layer-adds i j)
 
   pub layer-closed : ClosedN (layer c N g)
   unfolding ClosedN

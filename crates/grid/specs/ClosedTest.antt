@@ -8,14 +8,10 @@ use lib.Dec.{leb, eqb}
 use borrow.Author.Tests.{ne-eqb, eqb-true, leb-true}
 use Rattle.meaning.specs.Edges.{Edge, edge, number}
 use Rattle.basics.specs.Tests.{and-left, and-right}
-use Rattle.basics.specs.Lists.{All, all-map, number-same, number-none}
+use Rattle.basics.specs.Lists.{All, all-map, number-same, number-none, allBy}
 use Rattle.grid.specs.Plane.{ClosedN, goesWest, goesEast, xsOf}
-use Rattle.grid.specs.Places.{has, has-tail, has-ne}
+use Rattle.grid.specs.Places.{has, has-tail, has-ne, none-past}
 use Rattle.grid.specs.Compression.{cols-same, cols-early}
-
-unfoldable pub allBy : (ℕ → Bool) → List ℕ → Bool
-allBy P [] = true
-allBy P (p ∷ ps) = P p && allBy P ps
 
 pub all-has : (P : ℕ → Bool) (ps : List ℕ) (k : ℕ) → allBy P ps ≡ true → has k ps ≡ true → P k ≡ true
 unfolding allBy has
@@ -26,18 +22,9 @@ all-has P (p ∷ ps) k a h = go (eqb k p) refl h (all-has P ps k (and-right (P p
     go true e h ih = rw (eqb-true k p e) (and-left (P p) (allBy P ps) a)
     go false e h ih = ih h
 
-pub all-every : (P : ℕ → Bool) (ps : List ℕ) → ((k : ℕ) → P k ≡ true) → allBy P ps ≡ true
-unfolding allBy
-all-every P [] h = refl
-all-every P (p ∷ ps) h = rw (h p) (all-every P ps h)
-
 -- no place past N
 pub within-all : (N : ℕ) (ps : List ℕ) → allBy (λ p. leb p N) ps ≡ true → (y : ℕ) → N < y → has y ps ≡ false
-within-all N ps a y l = go (has y ps) refl
-  where
-    go : (t : Bool) → has y ps ≡ t → has y ps ≡ false
-    go true e = let m : y ≤ N = leb-true y N (all-has (λ p. leb p N) ps y a e) in absurd (omega arith)
-    go false e = e
+within-all N ps a = none-past N ps (λ k e. leb-true k N (all-has (λ p. leb p N) ps k a e))
 
 unfoldable pub layersOf : List (Edge ℕ) → List ℕ
 layersOf [] = []

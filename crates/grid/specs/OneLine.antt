@@ -1,4 +1,4 @@
--- What a list of runs means, and that a line is the only good list that means its f.
+-- What a list of runs means; a line is a good list, and good lists that mean the same are equal. Assumes nothing.
 use mathlib.Core.Path.{_≡_, refl, sym, ap, _∙_}
 use mathlib.Core.Logic.{_≢_}
 use mathlib.Core.Bool.{Bool, true, false, _&&_, false≢true, true≢false}
@@ -73,68 +73,12 @@ unfolding line
 line-good f a zero = tt
 line-good f a (suc n) = good-put a (suc a) (f a) (line f (suc a) n) (omega arith) (line-good f (suc a) n)
 
--- ---- a line means f
+-- ---- what runs mean
 
 pub at-below : (a : ℕ) (d : Dir) (rs : List Run) (k : ℕ) → Good a d rs → k < a → dirAt rs k ≡ off
 unfolding dirAt
 at-below a d [] k g p = refl
 at-below a d (run l h e ∷ rs) k g p = rw (spans-below l h k (omega arith)) (at-below h e rs k (g .4) (omega arith))
-
-at-in-if : (t : Bool) (a b : ℕ) (d : Dir) (l h : ℕ) (e : Dir) (rs : List Run) (k : ℕ) → b ≤ l → l < h → a ≤ k → k < b → dirAt (joinIf t a b d l h e rs) k ≡ d
-unfolding dirAt
-at-in-if true a b d l h e rs k u v p q = rw (spans-in a h k p (omega arith))
-at-in-if false a b d l h e rs k u v p q = rw (spans-in a b k p q)
-
-at-in-join : (a b : ℕ) (d : Dir) (rs : List Run) (k : ℕ) → Good b off rs → a ≤ k → k < b → dirAt (join a b d rs) k ≡ d
-unfolding dirAt
-at-in-join a b d [] k g p q = rw (spans-in a b k p q)
-at-in-join a b d (run l h e ∷ rs) k g p q = at-in-if (eqb l b && sameDir e d) a b d l h e rs k (g .0) (g .1) p q
-
-pub at-in : (a b : ℕ) (d : Dir) (rs : List Run) (k : ℕ) → Good b off rs → a ≤ k → k < b → dirAt (put a b d rs) k ≡ d
-at-in a b off rs k g p q = at-below b off rs k g q
-at-in a b fwd rs k g p q = at-in-join a b fwd rs k g p q
-at-in a b bwd rs k g p q = at-in-join a b bwd rs k g p q
-
-at-out-if : (t : Bool) (a b : ℕ) (d : Dir) (l h : ℕ) (e : Dir) (rs : List Run) (k : ℕ) → (eqb l b && sameDir e d) ≡ t → a ≤ b → b ≤ k → dirAt (joinIf t a b d l h e rs) k ≡ dirAt (run l h e ∷ rs) k
-unfolding dirAt
-at-out-if true a b d l h e rs k q u p =
-    let le : l ≡ b = eqb-true l b (and-left (eqb l b) (sameDir e d) q) in
-    let de : e ≡ d = same-true e d (and-right (eqb l b) (sameDir e d) q) in
-    go (decLt k h) le de
-  where
-    go : Dec (k < h) → l ≡ b → e ≡ d → pick (spans a h k) d (dirAt rs k) ≡ pick (spans l h k) e (dirAt rs k)
-    go (yes v) le de = rw (spans-in a h k (omega arith) v, spans-in l h k (omega arith) v, de)
-    go (no v) le de = rw (spans-above a h k (omega arith), spans-above l h k (omega arith))
-at-out-if false a b d l h e rs k q u p = rw (spans-above a b k p)
-
-at-out-join : (a b : ℕ) (d : Dir) (rs : List Run) (k : ℕ) → a ≤ b → b ≤ k → dirAt (join a b d rs) k ≡ dirAt rs k
-unfolding dirAt
-at-out-join a b d [] k u p = rw (spans-above a b k p)
-at-out-join a b d (run l h e ∷ rs) k u p = at-out-if (eqb l b && sameDir e d) a b d l h e rs k refl u p
-
-pub at-out : (a b : ℕ) (d : Dir) (rs : List Run) (k : ℕ) → a ≤ b → b ≤ k → dirAt (put a b d rs) k ≡ dirAt rs k
-at-out a b off rs k u p = refl
-at-out a b fwd rs k u p = at-out-join a b fwd rs k u p
-at-out a b bwd rs k u p = at-out-join a b bwd rs k u p
-
--- within the range piece k of the line has direction f k
-pub line-means : (f : ℕ → Dir) (a n k : ℕ) → a ≤ k → k < a + n → dirAt (line f a n) k ≡ f k
-unfolding line
-line-means f a zero k p q = absurd (omega arith)
-line-means f a (suc n) k p q = go (ℕ-discrete a k) (λ u. line-means f (suc a) n k u (omega arith))
-  where
-    rs : List Run
-    rs = line f (suc a) n
-
-    go : Dec (a ≡ k) → (suc a ≤ k → dirAt rs k ≡ f k) → dirAt (put a (suc a) (f a) rs) k ≡ f k
-    go (yes e) ih = at-in a (suc a) (f a) rs k (line-good f (suc a) n) p (omega arith) ∙ ap f e
-    go (no e) ih = at-out a (suc a) (f a) rs k (omega arith) (omega arith) ∙ ih (omega arith)
-
--- outside it has none
-pub line-after : (f : ℕ → Dir) (a n k : ℕ) → a + n ≤ k → dirAt (line f a n) k ≡ off
-unfolding line dirAt
-line-after f a zero k p = refl
-line-after f a (suc n) k p = at-out a (suc a) (f a) (line f (suc a) n) k (omega arith) (omega arith) ∙ line-after f (suc a) n k (omega arith)
 
 -- ---- only one good list means f
 

@@ -12,7 +12,7 @@ use Rattle.meaning.specs.Numbers.{bit}
 use Rattle.meaning.specs.Cells.{Dir, off, fwd, bwd, goes}
 use Rattle.meaning.specs.Records.{run, Record, rec}
 use Rattle.meaning.specs.Area.{total}
-use Rattle.basics.specs.Tests.{spans, spans-in, spans-parts, spans-empty}
+use Rattle.basics.specs.Tests.{spans, spans-in, spans-parts, spans-empty, and-parts}
 use Rattle.grid.specs.Plane.{levelN, uprightN, recordAt, kindN, resultN}
 use Rattle.basics.specs.Sums.{sumOf, sum-append}
 use Rattle.grid.specs.Sums.{total-one}
@@ -28,10 +28,6 @@ passesN kind p k false (rec kd pl f t) = (eqb kd kind && eqb pl p) && spans t f 
 unfoldable pub passingN : ℕ → ℕ → ℕ → Bool → List (Record ℕ) → ℕ
 passingN kind p k d rs = sumOf (λ r. bit (passesN kind p k d r)) rs
 
-part : (t a b c : Bool) → bit a + bit b ≡ bit c → bit (t && a) + bit (t && b) ≡ bit (t && c)
-part true a b c e = e
-part false a b c e = refl
-
 none : (t a : Bool) → a ≡ false → bit (t && a) ≡ 0
 none true a e = rw e
 none false a e = refl
@@ -41,7 +37,7 @@ hit true a e = rw e
 hit false a e = refl
 
 no-part : (t : Bool) (a b c k : ℕ) → a ≤ b → b ≤ c → bit (t && spans b a k) + bit (t && spans c b k) ≡ bit (t && spans c a k)
-no-part t a b c k p q = part t (spans b a k) (spans c b k) (spans c a k) (rw (spans-empty b a k p, spans-empty c b k q, spans-empty c a k (omega arith)))
+no-part t a b c k p q = and-parts t (spans b a k) (spans c b k) (spans c a k) (rw (spans-empty b a k p, spans-empty c b k q, spans-empty c a k (omega arith)))
 
 module _ (kd p k : ℕ) (kind pl : ℕ) where
   abbrev mark : Bool
@@ -52,15 +48,15 @@ module _ (kd p k : ℕ) (kind pl : ℕ) where
   adds true = record { none = λ a b. none mark (spans a a k) (spans-empty a a k (omega arith)); both = go }
     where
       go : (a b c : ℕ) (d : Dir) → a ≤ b → b ≤ c → bit (passesN kd p k true (recordAt kind pl (run a b d))) + bit (passesN kd p k true (recordAt kind pl (run b c d))) ≡ bit (passesN kd p k true (recordAt kind pl (run a c d)))
-      go a b c off u v = part mark (spans a a k) (spans b b k) (spans a a k) (rw (spans-empty a a k (omega arith), spans-empty b b k (omega arith)))
-      go a b c fwd u v = part mark (spans a b k) (spans b c k) (spans a c k) (spans-parts a b c k u v)
+      go a b c off u v = and-parts mark (spans a a k) (spans b b k) (spans a a k) (rw (spans-empty a a k (omega arith), spans-empty b b k (omega arith)))
+      go a b c fwd u v = and-parts mark (spans a b k) (spans b c k) (spans a c k) (spans-parts a b c k u v)
       go a b c bwd u v = no-part mark a b c k u v
   adds false = record { none = λ a b. none mark (spans a a k) (spans-empty a a k (omega arith)); both = go }
     where
       go : (a b c : ℕ) (d : Dir) → a ≤ b → b ≤ c → bit (passesN kd p k false (recordAt kind pl (run a b d))) + bit (passesN kd p k false (recordAt kind pl (run b c d))) ≡ bit (passesN kd p k false (recordAt kind pl (run a c d)))
-      go a b c off u v = part mark (spans a a k) (spans b b k) (spans a a k) (rw (spans-empty a a k (omega arith), spans-empty b b k (omega arith)))
+      go a b c off u v = and-parts mark (spans a a k) (spans b b k) (spans a a k) (rw (spans-empty a a k (omega arith), spans-empty b b k (omega arith)))
       go a b c fwd u v = no-part mark a b c k u v
-      go a b c bwd u v = part mark (spans a b k) (spans b c k) (spans a c k) (spans-parts a b c k u v)
+      go a b c bwd u v = and-parts mark (spans a b k) (spans b c k) (spans a c k) (spans-parts a b c k u v)
 
   here : (d : Bool) (e : Dir) → bit (passesN kd p k d (recordAt kind pl (run k (suc k) e))) ≡ bit mark * goes d e
   unfolding passesN

@@ -46,6 +46,14 @@ pub has-ne : (k p : ℕ) (ps : List ℕ) → has k (p ∷ ps) ≡ false → k �
 unfolding has
 has-ne k p ps e = eqb-false k p (or-left (eqb k p) (has k ps) e)
 
+-- none past N is a member, where no member is
+pub none-past : (N : ℕ) (ps : List ℕ) → ((k : ℕ) → has k ps ≡ true → k ≤ N) → (k : ℕ) → N < k → has k ps ≡ false
+none-past N ps h k l = go (has k ps) refl
+  where
+    go : (b : Bool) → has k ps ≡ b → has k ps ≡ false
+    go true e = let z : ⊥ = omega (arith, h k e) in absurd z
+    go false e = e
+
 pub rising-below : (a : ℕ) (ps : List ℕ) (k : ℕ) → Rising a ps → k < a → has k ps ≡ false
 unfolding has
 rising-below a [] k r l = refl
@@ -143,17 +151,17 @@ steps-of f qs a (b ∷ bs) J r e = (
   steps-of f qs b bs J (r .1) (λ y u. e y (omega arith) ∙ has-other y b bs (omega arith)),
 )
 
+end-up : (b : ℕ) (bs : List ℕ) → Rising (suc b) bs → b ≤ end b bs
+end-up b [] r = omega arith
+end-up b (c ∷ bs) r = omega (arith, end-up c bs (r .1))
+
 end-last : (a : ℕ) (bs : List ℕ) → Rising (suc a) bs → (y : ℕ) → end a bs < y → has y bs ≡ false
 unfolding has
 end-last a [] r y l = refl
 end-last a (b ∷ bs) r y l = rw (ne-eqb y b (go b bs (r .1) l)) (end-last b bs (r .1) y l)
   where
-    up : (b : ℕ) (bs : List ℕ) → Rising (suc b) bs → b ≤ end b bs
-    up b [] r = omega arith
-    up b (c ∷ bs) r = omega (arith, up c bs (r .1))
-
     go : (b : ℕ) (bs : List ℕ) → Rising (suc b) bs → end b bs < y → y ≢ b
-    go b bs r l = omega (arith, up b bs r)
+    go b bs r l = omega (arith, end-up b bs r)
 
 end-has : (a : ℕ) (bs : List ℕ) → has (end a bs) (a ∷ bs) ≡ true
 unfolding has
@@ -171,13 +179,9 @@ line-over f qs (b ∷ bs) n J r e m =
     line-whole f b bs n
     (λ k p. J .early k (λ y l. e y ∙ rising-below b (b ∷ bs) y (omega arith, r .1) (omega arith)))
     (steps-of f qs b bs J (r .1) (λ y l. e y ∙ has-other y b bs (omega arith)))
-    (λ k p. J .late k (λ y l. e y ∙ (has-other y b bs (omega (arith, up b bs (r .1))) ∙ end-last b bs (r .1) y (omega arith))))
+    (λ k p. J .late k (λ y l. e y ∙ (has-other y b bs (omega (arith, end-up b bs (r .1))) ∙ end-last b bs (r .1) y (omega arith))))
     (go (decLt n (end b bs)))
   where
-    up : (b : ℕ) (bs : List ℕ) → Rising (suc b) bs → b ≤ end b bs
-    up b [] r = omega arith
-    up b (c ∷ bs) r = omega (arith, up c bs (r .1))
-
     go : Dec (n < end b bs) → end b bs ≤ n
     go (yes l) = absurd (true≢false (sym (end-has b bs) ∙ sym (e (end b bs)) ∙ m (end b bs) l))
     go (no l) = omega arith

@@ -2,17 +2,17 @@
 use mathlib.Core.Path.{_≡_, refl}
 use mathlib.Core.Logic.{_≢_}
 use mathlib.Core.Bool.{Bool, true, false, _&&_}
-use mathlib.Core.List.{List, [], _∷_, _++_, map}
+use mathlib.Core.List.{List, [], _∷_, _++_}
 use Prim.Native.Nat.{ℕ, zero, suc, _+_, _-_, _*_, _≤_, _<_}
 use native.Mathlib.Omega.{arith}
 use lib.Dec.{eqb}
-use lib.ListN.{length, length-append, length-map, getD, drop, drop-of-length-le}
+use lib.ListN.{length, getD, drop, drop-of-length-le}
 use lib.Seq.{drop-cons}
 use borrow.Author.Tests.{ne-eqb}
 use Rattle.meaning.specs.Cells.{Dir, off, fwd, bwd}
 use Rattle.meaning.specs.Records.{Run, run, sameDir, joinIf, join, put}
 use Rattle.basics.specs.Tests.{and-off}
-use Rattle.grid.specs.Plane.{lineAt, lineOver, recordAt, eachOf, kindAt}
+use Rattle.grid.specs.Plane.{lineAt, lineOver}
 use Rattle.grid.specs.LineLaws.{put-put}
 use Rattle.grid.specs.OneLine.{Good, same-true, good-put}
 use Rattle.grid.specs.Places.{Rising}
@@ -74,39 +74,6 @@ unfolding lineAt
 scan-end f s a off = refl
 scan-end f s a fwd = refl
 scan-end f s a bwd = refl
-
--- ---- how many runs
-
-length-if : (t : Bool) (a b : ℕ) (d : Dir) (l h : ℕ) (e : Dir) (rs : List Run) → length (joinIf t a b d l h e rs) ≤ suc (suc (length rs))
-length-if true a b d l h e rs = omega arith
-length-if false a b d l h e rs = omega arith
-
-length-join : (a b : ℕ) (d : Dir) (rs : List Run) → length (join a b d rs) ≤ suc (length rs)
-length-join a b d [] = omega arith
-length-join a b d (run l h e ∷ rs) = length-if (eqb l b && sameDir e d) a b d l h e rs
-
-length-put : (a b : ℕ) (d : Dir) (rs : List Run) → length (put a b d rs) ≤ suc (length rs)
-length-put a b off rs = omega arith
-length-put a b fwd rs = length-join a b fwd rs
-length-put a b bwd rs = length-join a b bwd rs
-
-pub length-at : (f : ℕ → Dir) (a : ℕ) (bs : List ℕ) → length (lineAt f a bs) ≤ length bs
-unfolding lineAt
-length-at f a [] = omega arith
-length-at f a (b ∷ bs) = omega (arith, length-put a b (f a) (lineAt f b bs), length-at f b bs)
-
-length-over : (f : ℕ → Dir) (bs : List ℕ) → length (lineOver f bs) ≤ length bs
-unfolding lineOver
-length-over f [] = omega arith
-length-over f (b ∷ bs) = omega (arith, length-at f b bs)
-
--- so a number of records of one kind is at most places times breakpoints
-pub length-kind : (kind : ℕ) (F : ℕ → ℕ → Dir) (ps bs : List ℕ) → length (kindAt kind F ps bs) ≤ length ps * length bs
-unfolding kindAt eachOf
-length-kind kind F [] bs = omega arith
-length-kind kind F (p ∷ ps) bs =
-    let l : length (map (recordAt kind p) (lineOver (F p) bs)) ≡ length (lineOver (F p) bs) = length-map (lineOver (F p) bs) (recordAt kind p) in
-    omega (arith, l, length-append (map (recordAt kind p) (lineOver (F p) bs)) (kindAt kind F ps bs), length-over (F p) bs, length-kind kind F ps bs)
 
 -- ---- by index, as a loop has it: the open run goes from s to breakpoint k, in direction d
 

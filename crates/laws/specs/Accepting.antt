@@ -13,7 +13,7 @@
 --   refused, not-accepted, edges-silent   no refusal is an acceptance
 --   edges-single          ONE ANSWER: each row says one
 use mathlib.Core.Path.{_≡_, refl, sym, ap, _∙_, subst}
-use mathlib.Core.Bool.{Bool, true, false, _&&_, true≢false}
+use mathlib.Core.Bool.{true, false, _&&_, true≢false}
 use mathlib.Core.Logic.{inl, inr}
 use mathlib.Core.List.{List, [], _∷_, _++_, append-assoc, append-nil}
 use Prim.Native.Nat.{ℕ, zero, suc, _+_, _/_, _%_, _≤_, _<_}
@@ -29,6 +29,7 @@ use Rattle.basics.specs.Lists.{All, all-at}
 use Rattle.basics.specs.Tables.{Singles, single-given, not-given, Silent, silent-append, singles-append}
 use Rattle.basics.specs.Fours.{none}
 use Rattle.basics.specs.Sound.{Sound, SoundList}
+use Rattle.basics.specs.Tests.{is-other}
 
 abbrev pub Passed : Row Answer
 Passed a = a ≡ accepted 0
@@ -108,14 +109,6 @@ edges-silent top L ns v = (
 
 -- ---- what passing says
 
-not-false : (b : Bool) → ((b ≡ false → ⊥)) → b ≡ true
-not-false true h = refl
-not-false false h = absurd (h refl)
-
-not-true : (b : Bool) → ((b ≡ true → ⊥)) → b ≡ false
-not-true true h = absurd (h refl)
-not-true false h = refl
-
 records-sound : (top L k : ℕ) (es : List (Edge ℤ)) (more : List (Row Answer)) (Last : Row Answer) (v : ℕ) → First (recordRows top L k es ++ more) Last (accepted v)
     → Sound top L es × All (λ e. flat e ≡ false) es × First more Last (accepted v)
 records-sound top L k [] more Last v x = (tt, tt, x)
@@ -123,7 +116,7 @@ records-sound top L k (e ∷ es) more Last v (inl x) = absurd (not-accepted (out
 records-sound top L k (e ∷ es) more Last v (inr (_, inl x)) = absurd (not-accepted (from-equals-to k) v _ (λ z. omega arith) x)
 records-sound top L k (e ∷ es) more Last v (inr (a, inr (b, x))) =
     let r = records-sound top L (suc k) es more Last v x in
-    ((not-false (soundEdge top L e) (λ h. a (out-of-range k) (h, refl)), r .0), (not-true (flat e) (λ h. b (from-equals-to k) (h, refl)), r .1), r .2)
+    ((is-other (soundEdge top L e) false (λ h. a (out-of-range k) (h, refl)), r .0), (is-other (flat e) true (λ h. b (from-equals-to k) (h, refl)), r .1), r .2)
 
 -- equations of numbers are decided, so a list that is not open is closed
 stable : (es : List (Edge ℤ)) → ((Closed es → ⊥) → ⊥) → Closed es

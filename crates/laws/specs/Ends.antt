@@ -3,20 +3,20 @@
 --   fromAt x, toAt x    the edge's from (to) is x
 --   closed-ends         a closed list is closed by ends
 --   ends-closed         CLOSED BY ENDS: a sound list that is closed by ends is closed
-use mathlib.Core.Path.{_≡_, refl, sym, _∙_}
+use mathlib.Core.Path.{_≡_, refl, sym, ap, _∙_}
 use mathlib.Core.Bool.{Bool, true, false, _&&_}
 use mathlib.Core.List.{List, [], _∷_, map}
 use Prim.Native.Nat.{ℕ, zero, suc, _+_, _≤_}
 use native.Mathlib.Omega.{arith}
 use native.Mathlib.Decide.{decLe, ℕ-discrete}
-use lib.Dec.{leb, eqb}
+use lib.Dec.{leb, eqb, leb·suc-suc}
 use lib.IntN.{ℤ, pos, negsuc, predℤ}
 use lib.Signed.{leZ}
 use borrow.Author.Tests.{le-leb, lt-leb, eq-eqb, ne-eqb}
 use Rattle.meaning.specs.Numbers.{bit, eqZ, step}
 use Rattle.meaning.specs.Edges.{Edge, edge, on, west, east, number, Closed, soundEdge}
 use Rattle.basics.specs.Lists.{all-map, number-none}
-use Rattle.basics.specs.Tests.{and-off}
+use Rattle.basics.specs.Tests.{and-off, and-parts, ltb-more}
 use Rattle.basics.specs.Steps.{step-pred}
 use Rattle.basics.specs.Sound.{Sound, sound-parts, lifted}
 use Rattle.grid.specs.Plane.{ClosedN}
@@ -32,13 +32,7 @@ toAt x (edge l y f t) = eqZ t x
 
 -- one column more: an end is at most x where it is at most the number before, or x itself
 one-more : (a b : ℕ) → bit (leb a (suc b)) ≡ bit (leb a b) + bit (eqb a (suc b))
-one-more a b = go (decLe a b) (ℕ-discrete a (suc b))
-  where
-    go : Dec (a ≤ b) → Dec (a ≡ suc b) → bit (leb a (suc b)) ≡ bit (leb a b) + bit (eqb a (suc b))
-    go (yes p) (yes q) = absurd (omega arith)
-    go (yes p) (no q) = rw (le-leb a (suc b) (omega arith), le-leb a b p, ne-eqb a (suc b) q)
-    go (no p) (yes q) = rw (le-leb a (suc b) (omega arith), lt-leb a b (omega arith), eq-eqb a (suc b) q)
-    go (no p) (no q) = rw (lt-leb a (suc b) (omega arith), lt-leb a b (omega arith), ne-eqb a (suc b) q)
+one-more a b = ap bit (sym (leb·suc-suc a (suc b))) ∙ ltb-more a (suc b) ∙ ap (λ (t : Bool). bit t + bit (eqb a (suc b))) (leb·suc-suc a b)
 
 step-bit : (z x : ℤ) → bit (leZ z x) ≡ bit (leZ z (predℤ x)) + bit (eqZ z x)
 unfolding eqZ
@@ -56,19 +50,15 @@ step-bit (negsuc a) (negsuc b) = go (decLe b a) (ℕ-discrete a b)
     go (no p) (yes q) = absurd (omega arith)
     go (no p) (no q) = rw (lt-leb b a (omega arith), lt-leb (suc b) a (omega arith), ne-eqb a b q)
 
-masked : (p a b c : Bool) → bit a ≡ bit b + bit c → bit (p && a) ≡ bit (p && b) + bit (p && c)
-masked true a b c e = e
-masked false a b c e = refl
-
 from-step : (es : List (Edge ℤ)) (c : ℕ) (x : ℤ) → number (λ e. on c e && fromUpTo x e) es ≡ number (λ e. on c e && fromUpTo (predℤ x) e) es + number (λ e. on c e && fromAt x e) es
 unfolding number fromUpTo fromAt
 from-step [] c x = refl
-from-step (edge l y f t ∷ es) c x = omega (arith, masked (on c (edge l y f t)) (leZ f x) (leZ f (predℤ x)) (eqZ f x) (step-bit f x), from-step es c x)
+from-step (edge l y f t ∷ es) c x = omega (arith, and-parts (on c (edge l y f t)) (leZ f (predℤ x)) (eqZ f x) (leZ f x) (sym (step-bit f x)), from-step es c x)
 
 to-step : (es : List (Edge ℤ)) (c : ℕ) (x : ℤ) → number (λ e. on c e && toUpTo x e) es ≡ number (λ e. on c e && toUpTo (predℤ x) e) es + number (λ e. on c e && toAt x e) es
 unfolding number toUpTo toAt
 to-step [] c x = refl
-to-step (edge l y f t ∷ es) c x = omega (arith, masked (on c (edge l y f t)) (leZ t x) (leZ t (predℤ x)) (eqZ t x) (step-bit t x), to-step es c x)
+to-step (edge l y f t ∷ es) c x = omega (arith, and-parts (on c (edge l y f t)) (leZ t (predℤ x)) (eqZ t x) (leZ t x) (sym (step-bit t x)), to-step es c x)
 
 pub closed-ends : (es : List (Edge ℤ)) → Closed es → (c : ℕ) (x : ℤ) → number (λ e. on c e && fromAt x e) es ≡ number (λ e. on c e && toAt x e) es
 closed-ends es h c x = omega (arith, from-step es c x, to-step es c x, closed-up-to es h c x, closed-up-to es h c (predℤ x))

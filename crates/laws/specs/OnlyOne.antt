@@ -6,24 +6,23 @@
 --   result-in-range the result is in range
 --   one-result      THE RESULT IS THE ONE: a list in order, in range, that lists a piece exactly when its side cells differ
 use mathlib.Core.Path.{_≡_, refl, sym, ap, ap₂, _∙_, subst}
-use mathlib.Core.Logic.{_≢_, _⊎_, inl, inr}
+use mathlib.Core.Logic.{_≢_, _⊎_}
 use mathlib.Core.Bool.{Bool, true, false, not, _&&_, _||_, true≢false, false≢true}
 use mathlib.Core.List.{List, [], _∷_, _++_, map}
 use Prim.Native.Nat.{ℕ, zero, suc, _+_, _*_, _/_, _%_, _≤_, _<_}
 use native.Mathlib.Omega.{arith}
 use native.Mathlib.Decide.{decLt, ℕ-discrete}
 use native.Mathlib.Nat.{div-add-mod', mod-lt, mul-le-mul-right, zero-add}
-use lib.Dec.{eqb, ltb, leb}
+use lib.Dec.{eqb, ltb}
 use lib.IntN.{ℤ}
 use lib.Signed.{ltZ}
-use borrow.Author.Tests.{lt-ltb, le-ltb, eq-eqb, ne-eqb, ltb-true, ltb-false, eqb-true}
-use Rattle.meaning.specs.Numbers.{bit, pick, eqZ, inRange, step}
+use borrow.Author.Tests.{eq-eqb, ne-eqb, ltb-true, ltb-false, eqb-true}
+use Rattle.meaning.specs.Numbers.{bit, pick, inRange, step}
 use Rattle.meaning.specs.Edges.{number}
 use Rattle.meaning.specs.Cells.{Dir, off, fwd, bwd, goes, level, upright, Within}
-use Rattle.meaning.specs.Records.{Run, run, sameDir, Record, rec, kindOf, result, passes, lesser, greater, same, apart, before, passing, Ahead, InOrder}
-use Rattle.basics.specs.Tests.{and-left, and-right, and-off, and-on, leb-same, spans, spans-in, spans-below, spans-above, spans-empty}
+use Rattle.meaning.specs.Records.{Run, run, sameDir, Record, rec, kindOf, result, passes, lesser, greater, same, before, passing, Ahead, InOrder}
+use Rattle.basics.specs.Tests.{and-left, and-right, and-off, and-on, leb-same, spans, spans-below, spans-above, spans-empty}
 use Rattle.basics.specs.Lists.{All, all-map, all-append, all-to-map, number-none}
-use Rattle.basics.specs.Signed.{eqZ-refl}
 use Rattle.basics.specs.Steps.{lift, step-lt, step-eq, step-range, step-lift, lift-le, lowered}
 use Rattle.grid.specs.OneLine.{Good, dirAt, unique, fwd≢off, bwd≢off}
 use Rattle.grid.specs.Plane.{resultN}
@@ -162,19 +161,15 @@ module _ (L : ℕ) where
 
   -- ---- records in order make a good line
 
+  pick-step : (b : Bool) (f t : ℕ) → pick b (step L f) (step L t) ≡ step L (pick b f t)
+  pick-step true f t = refl
+  pick-step false f t = refl
+
   low-step : (f t : ℕ) → pick (ltZ (step L f) (step L t)) (step L f) (step L t) ≡ step L (low f t)
-  low-step f t = rw (step-lt L f t) (go (ltb f t))
-    where
-      go : (b : Bool) → pick b (step L f) (step L t) ≡ step L (pick b f t)
-      go true = refl
-      go false = refl
+  low-step f t = rw (step-lt L f t) (pick-step (ltb f t) f t)
 
   high-step : (f t : ℕ) → pick (ltZ (step L f) (step L t)) (step L t) (step L f) ≡ step L (high f t)
-  high-step f t = rw (step-lt L f t) (go (ltb f t))
-    where
-      go : (b : Bool) → pick b (step L t) (step L f) ≡ step L (pick b t f)
-      go true = refl
-      go false = refl
+  high-step f t = rw (step-lt L f t) (pick-step (ltb f t) t f)
 
   proper : (kd p f t : ℕ) → ltZ (lesser (lowered L (rec kd p f t))) (greater (lowered L (rec kd p f t))) ≡ true → low f t < high f t
   proper kd p f t h = ltb-true (low f t) (high f t) (sym (step-lt L (low f t) (high f t)) ∙ ap₂ ltZ (sym (low-step f t)) (sym (high-step f t)) ∙ h)
@@ -199,19 +194,15 @@ module _ (L : ℕ) where
       (lineNo kd p * wide + high f t ≤ lineNo ke q * wide + low u v)
       × (lineNo ke q * wide + low u v ≡ lineNo kd p * wide + high f t → way u v ≢ way f t)
 
+  end-le : (c : Bool) (f t : ℕ) → f ≤ 2 * L → t ≤ 2 * L → pick c f t ≤ 2 * L
+  end-le true f t a b = a
+  end-le false f t a b = b
+
   low-le : (f t : ℕ) → f ≤ 2 * L → t ≤ 2 * L → low f t ≤ 2 * L
-  low-le f t a b = go (ltb f t)
-    where
-      go : (c : Bool) → pick c f t ≤ 2 * L
-      go true = a
-      go false = b
+  low-le f t a b = end-le (ltb f t) f t a b
 
   high-le : (f t : ℕ) → f ≤ 2 * L → t ≤ 2 * L → high f t ≤ 2 * L
-  high-le f t a b = go (ltb f t)
-    where
-      go : (c : Bool) → pick c t f ≤ 2 * L
-      go true = b
-      go false = a
+  high-le f t a b = end-le (ltb f t) t f b a
 
   next-line : (kd p f t ke q u v : ℕ) → Inner (2 * L) (rec kd p f t) → lineNo kd p < lineNo ke q → Next (rec kd p f t) (rec ke q u v)
   next-line kd p f t ke q u v a l =

@@ -6,11 +6,11 @@
 --   cells-view          and its cells are counted alike
 --   within-bounded      a set of cells within the range is bounded in steps
 use mathlib.Core.Path.{_≡_, refl, sym, ap, ap₂, _∙_, fun-ext}
-use mathlib.Core.Bool.{Bool, true, false}
+use mathlib.Core.Bool.{Bool, true}
 use mathlib.Core.List.{List, [], _∷_, _++_, map}
 use Prim.Native.Nat.{ℕ, zero, suc, _+_, _-_, _*_, _≤_}
 use native.Mathlib.Omega.{arith}
-use lib.IntN.{ℤ, pos, negsuc, predℤ, negℤ}
+use lib.IntN.{ℤ, pos, predℤ, negℤ}
 use lib.Signed.{ltZ, leZ}
 use borrow.Author.Tests.{lt-ltb, le-leb}
 use Rattle.meaning.specs.Numbers.{step}
@@ -19,7 +19,7 @@ use Rattle.meaning.specs.Records.{Run, run, line, Record, rec, recordOf, each, 
 use Rattle.meaning.specs.Area.{cells}
 use Rattle.basics.specs.Lists.{map-append}
 use Rattle.basics.specs.Signed.{minus-sub, sub-pos, sub-neg}
-use Rattle.basics.specs.Steps.{step-pred, step-le, lowered}
+use Rattle.basics.specs.Steps.{step-pred, lowered}
 use Rattle.grid.specs.Plane.{prior, levelN, uprightN, recordAt, kindN, resultN}
 use Rattle.grid.specs.AreaLaws.{cellsN}
 use Rattle.grid.specs.Beside.{Bounded}

@@ -23,7 +23,7 @@ use Rattle.meaning.specs.Numbers.{limit}
 use Rattle.meaning.specs.Answers.{Answer, answer}
 use Rattle.meaning.specs.Rings.{pairsIn}
 use Rattle.meaning.specs.MaskFile.{spelt, five, Stands, Cut, NotShortest, TooLong}
-use Rattle.meaning.specs.Faults.{Begun, at-layer, at-count, at-x, at-y, after, Begins, nothing, more, FileSpells, ListSpells, MayEnd, IsCoordinate, Judged, Absent, Malformed, DueInFile, RingFault}
+use Rattle.meaning.specs.Faults.{Begun, at-layer, at-count, at-x, at-y, after, Begins, nothing, more, FileSpells, ListSpells, IsCoordinate, Judged, Absent, Malformed, DueInFile, RingFault}
 use Rattle.ringlaws.specs.Groups.{number, front, Bytes, Found, clash, number-front, cut-front, bad-front, front-cut, front-bad, front-bounds}
 use Rattle.ringlaws.specs.Beginnings.{Fine, fine-x, fine-y, fine-layer, fine-count, count-few, Good, good-begins, length-snoc}
 use Rattle.ringlaws.specs.Forms.{file-begins, list-begins}
@@ -34,7 +34,7 @@ use Rattle.numbers.specs.declared.Reading.the-variants.{Value, Refused}
 use Rattle.rings.specs.State.{start, mayEnd, faultOf, nextOf, Sane}
 use Rattle.rings.specs.StateOf.{stateOf, keyed}
 use Rattle.rings.specs.declared.State.{State}
-use Rattle.rings.proofs.Standing.{Natural, verdict, next-state, sane, mag-below}
+use Rattle.rings.proofs.Standing.{Natural, verdict, next-state, sane, mag-below, not-end}
 use Rattle.maskfile.specs.Due.{valueOf, minusZero, dueInFile, liftedOf}
 use Rattle.maskfile.specs.Outcome.{RingsOutcome}
 use Rattle.maskfile.proofs.Stored.{meant, meant-natural, meant-means, coordinate-due, value-keyed, Taken, taken, Left, absent, malformed, minus, faulty, left}
@@ -244,9 +244,3 @@ module _ (f : List ℕ) (out₀ : List ℤ) (s : State) (at n : ℕ) (out : List
     pub reads-short : mayEnd (s .due) ≡ false → RingsOutcome f out₀ (Refused 12 (length f)) out
     reads-short e =
         inl (record { number = 12; value = length f; is = refl; fault = record { begun = w .begun; front = w .front; rest = drop at f; is = w .is; begins = w .file; due = inl ((subst⁻¹ (Cut five) nothing-left (record { continued = tt; short = lit≤ tt }), λ d z. not-end (w .begun) d (subst (λ (t : State). mayEnd (t .due) ≡ false) (w .state) e)), refl) } })
-      where
-        not-end : (b : Begun) → MayEnd b → mayEnd (stateOf b .due) ≡ false → ⊥
-        not-end (at-layer rs) d t = true≢false t
-        not-end (at-count rs l) d t = d
-        not-end (at-x rs l k ps) d t = d
-        not-end (at-y rs l k ps x) d t = d

@@ -7,9 +7,9 @@ use native.Mathlib.Omega.{arith}
 use native.Mathlib.Numerals.{add-one}
 use lib.ListN.{length, take, getD}
 use lib.Seq.{take-suc}
-use mir.Syntax.{w32, w64}
+use mir.Syntax.{w64}
 use mir.Val.{SFits, toZ, ofZ}
-use mir.Facts.{toZ-ofZ, sfits-widen}
+use mir.Facts.{toZ-ofZ}
 use lib.IntN.{ℤ, pos, negsuc, natAbs}
 use lib.Signed.{ltZ}
 use borrow.Author.Tests.{ltb-true}
@@ -42,14 +42,6 @@ module _ (z : ℤ) (fits : SFits w64 z) {m : ℕ} (size : m ≡ natAbs (toZ w64 
 
   pub without-sign : ltZ (toZ w64 (ofZ w64 z)) (pos 0) ≡ false → signedText z ≡ decimal m
   without-sign t = plus z (rw (toZ-ofZ fits) at t) ∙ ap decimal (ap natAbs (sym (toZ-ofZ fits)) ∙ sym size)
-
--- a number of 32 bits handed on as one of 64
-module _ (z : ℤ) (fits : SFits w32 z) where
-  pub widens : SFits w64 (toZ w32 (ofZ w32 z))
-  widens = rw (toZ-ofZ fits) (sfits-widen {w = w32} {w′ = w64} tt fits)
-
-  pub widened : toZ w64 (ofZ w64 (toZ w32 (ofZ w32 z))) ≡ z
-  widened = toZ-ofZ widens ∙ toZ-ofZ fits
 
 -- ---- a word, byte by byte
 

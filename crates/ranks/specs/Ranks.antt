@@ -16,17 +16,13 @@ use lib.Dec.{leb, ltb, eqb}
 use lib.ListN.{length, getD}
 use borrow.Author.Tests.{le-leb, lt-leb, lt-ltb, le-ltb, eqb-true}
 use Rattle.meaning.specs.Numbers.{pick}
+use Rattle.basics.specs.Lists.{At}
+use Rattle.basics.specs.Tests.{or-true}
 use Rattle.grid.specs.Places.{has, has-head, has-other, Rising, rising-below}
 
 unfoldable pub rank : List ℕ → ℕ → ℕ
 rank [] v = 0
 rank (x ∷ xs) v = pick (ltb x v) (suc (rank xs v)) 0
-
--- v stands somewhere in xs
-pub record At (xs : List ℕ) (v : ℕ) : Type 0 where
-  pub place : ℕ
-  pub within : place < length xs
-  pub is : getD xs place 0 ≡ v
 
 -- ---- by index
 
@@ -67,13 +63,9 @@ has-at v (x ∷ xs) h = go (eqb v x) refl h (λ u. has-at v xs u)
     go true e h ih = record { place = 0; within = omega arith; is = sym (eqb-true v x e) }
     go false e h ih = let m = ih h in record { place = suc (m .place); within = omega (arith, m .within); is = m .is }
 
-or-right-true : (p q : Bool) → q ≡ true → (p || q) ≡ true
-or-right-true true q e = refl
-or-right-true false q e = e
-
 pub has-cons : (v x : ℕ) (xs : List ℕ) → has v xs ≡ true → has v (x ∷ xs) ≡ true
 unfolding has
-has-cons v x xs e = or-right-true (eqb v x) (has v xs) e
+has-cons v x xs e = rw e (or-true (eqb v x))
 
 pub at-has : (v : ℕ) (xs : List ℕ) → At xs v → has v xs ≡ true
 at-has v xs m = go xs (m .place) (m .within) (m .is)

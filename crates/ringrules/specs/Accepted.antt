@@ -19,9 +19,9 @@ use Rattle.meaning.specs.Rings.{Pair, Ring, backTo, cyclic, xs, InRange, GoodRi
 use Rattle.basics.specs.Lists.{All, all-append, number-append}
 use Rattle.basics.specs.Signed.{eqZ-no}
 use Rattle.basics.specs.Sound.{Sound}
+use Rattle.basics.specs.Fours.{edges-beside}
 use Rattle.laws.specs.Columns.{toUpTo, fromUpTo, up-to-closed}
 use Rattle.laws.specs.Accepting.{AcceptedEdges}
-use Rattle.demands.specs.Parts.{edges-beside}
 
 abbrev between1 : ℕ → Pair → Pair → Edge ℤ
 between1 l p q = edge (pos l) (p .y) (p .x) (q .x)

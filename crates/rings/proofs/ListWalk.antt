@@ -9,7 +9,7 @@
 --   list-over, list-short   the end of the list
 --   call-refused, call-room, call-done   the table of a call by its outcome
 use mathlib.Core.Path.{_≡_, refl, sym, ap, ap₂, subst, subst⁻¹, _∙_}
-use mathlib.Core.Bool.{true, false, true≢false, false≢true}
+use mathlib.Core.Bool.{true, false, false≢true}
 use mathlib.Core.Logic.{inl, inr}
 use mathlib.Core.List.{List, [], _∷_, _++_}
 use Prim.Native.Nat.{ℕ, suc, _+_, _-_, _≤_, _<_}
@@ -25,7 +25,7 @@ use Rattle.basics.specs.Stores.{sets-all}
 use Rattle.meaning.specs.Numbers.{limit}
 use Rattle.meaning.specs.Answers.{Answer, answer, accepted, room-too-short}
 use Rattle.meaning.specs.Rings.{Ring, GoodRings, pairsIn, numbersOf}
-use Rattle.meaning.specs.Faults.{Begun, at-layer, at-count, at-x, at-y, after, Begins, nothing, more, ListSpells, MayEnd, Judged, ListFault, OfList}
+use Rattle.meaning.specs.Faults.{Begun, at-layer, at-count, at-x, at-y, after, Begins, nothing, more, ListSpells, Judged, ListFault, OfList}
 use Rattle.ringlaws.specs.Groups.{clash}
 use Rattle.ringlaws.specs.Beginnings.{Fine, Good, good-begins}
 use Rattle.ringlaws.specs.Forms.{list-begins}
@@ -39,7 +39,7 @@ use Rattle.rings.specs.StateOf.{stateOf, keyed}
 use Rattle.rings.specs.Outcome.{Made, Outcome}
 use Rattle.rings.specs.declared.State.{State}
 use Rattle.rings.proofs.Judging.{judged-value, judged-refused}
-use Rattle.rings.proofs.Standing.{Natural, verdict, negative, next-state, sane}
+use Rattle.rings.proofs.Standing.{Natural, verdict, negative, next-state, sane, not-end}
 
 pub record ListAt (ns : List ℤ) (b : Begun) (s : State) (i : ℕ) : Type 0 where
   pub state : s ≡ stateOf b
@@ -166,12 +166,6 @@ module _ (ns : List ℤ) (b : Begun) (s : State) (i : ℕ) (w : ListAt ns b s i)
     pub list-short : mayEnd (s .due) ≡ false → ListFault limit ns (answer 12 (length ns))
     list-short e =
         record { begun = b; front = take i ns; rest = drop i ns; is = sym (take-append-drop i ns); begins = w .list; due = inl ((drop-of-length-le ns over, λ d. not-end b d (subst (λ (t : State). mayEnd (t .due) ≡ false) (w .state) e)), refl) }
-      where
-        not-end : (b : Begun) → MayEnd b → mayEnd (stateOf b .due) ≡ false → ⊥
-        not-end (at-layer rs) d t = true≢false t
-        not-end (at-count rs l) d t = d
-        not-end (at-x rs l k ps) d t = d
-        not-end (at-y rs l k ps x) d t = d
 
 -- ---- the whole call: r is the outcome with no room, none
 

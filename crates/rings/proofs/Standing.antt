@@ -6,6 +6,7 @@
 --   verdict          the code's fault of a due number is its answer in the paper's table, and 0 where it has none
 --   negative         a layer or a k below 0
 --   next-state       the next state
+--   not-end          where a ring list may end, the code lets it
 --   sane, keyed-most   bounds of a state, and of a due number with no fault
 use mathlib.Core.Path.{_≡_, refl, sym, ap, ap₂, subst, subst⁻¹, _∙_}
 use mathlib.Core.Bool.{Bool, true, false, not, true≢false, false≢true}
@@ -24,13 +25,13 @@ use Rattle.basics.specs.Lists.{map-append}
 use Rattle.meaning.specs.Numbers.{pick, limit, inRange}
 use Rattle.meaning.specs.Answers.{answer}
 use Rattle.meaning.specs.Rings.{Pair, pair, Ring, ring, All, xs, ys, pairsIn}
-use Rattle.meaning.specs.Faults.{Begun, at-layer, at-count, at-x, at-y, after, Beside, Judged, previousOr, previous}
+use Rattle.meaning.specs.Faults.{Begun, at-layer, at-count, at-x, at-y, after, Beside, Judged, previousOr, previous, MayEnd}
 use Rattle.ringlaws.specs.Groups.{clash}
 use Rattle.ringlaws.specs.Differences.{pos-inj, in-range}
 use Rattle.ringlaws.specs.Neighbours.{previous-from}
 use Rattle.ringlaws.specs.Beginnings.{Fine, FineAt, fine-layer, fine-count, count-few, fine-x, fine-y, layer-fine, count-fine, x-fine, y-fine, Good, pairs-snoc, length-snoc, length-xs, length-ys}
 use Rattle.ringlaws.specs.Forms.{range-xs, range-ys, previous-size}
-use Rattle.rings.specs.State.{start, outside, meets, coordinateFault, faultOf, firstOf, nextBy, nextOf, Sane}
+use Rattle.rings.specs.State.{start, outside, meets, coordinateFault, faultOf, firstOf, nextBy, nextOf, Sane, mayEnd}
 use Rattle.rings.specs.StateOf.{isNone, firstOr, stateOf, keyed}
 
 -- ---- range
@@ -251,3 +252,11 @@ keyed-most (at-layer rs) z f = let i = fine-layer limit rs z f in rw (i .is) (om
 keyed-most (at-count rs l) z f = let i = fine-count limit rs l z f .0 in rw (i .is) (omega (arith, count-few limit rs l (i .count) (subst (Fine limit (at-count rs l)) (i .is) f)))
 keyed-most (at-x rs l k ps) z f = key-most limit z (lit≤ tt) (fine-x limit rs l k ps z f .0)
 keyed-most (at-y rs l k ps x) z f = key-most limit z (lit≤ tt) (fine-y limit rs l k ps x z f .0)
+
+-- ---- the end
+
+pub not-end : (b : Begun) → MayEnd b → mayEnd (stateOf b .due) ≡ false → ⊥
+not-end (at-layer rs) d t = true≢false t
+not-end (at-count rs l) d t = d
+not-end (at-x rs l k ps) d t = d
+not-end (at-y rs l k ps x) d t = d

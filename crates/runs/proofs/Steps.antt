@@ -7,6 +7,7 @@ use native.Mathlib.Omega.{arith}
 use native.Mathlib.Decide.{decLt, ℕ-discrete}
 use lib.ListN.{length, getD, set, length-set}
 use lib.Seq.{getD-set-same, getD-set-other}
+use Rattle.basics.specs.Tests.{is-other}
 use Rattle.runs.specs.Stretches.{Quiet, Skipped, Filled, NextIs}
 
 -- ---- what a test of two Booleans told
@@ -34,16 +35,6 @@ bne-no true true e = refl
 bne-no true false e = absurd (true≢false e)
 bne-no false true e = absurd (true≢false e)
 bne-no false false e = refl
-
-bool-other : (a b : Bool) → (a ≡ b → ⊥) → a ≡ not b
-bool-other true true n = absurd (n refl)
-bool-other true false n = refl
-bool-other false true n = refl
-bool-other false false n = absurd (n refl)
-
-pub not-self : (b : Bool) → b ≡ not b → ⊥
-not-self true e = true≢false e
-not-self false e = false≢true e
 
 -- ---- `skip`
 
@@ -108,7 +99,7 @@ module _ {old₀ old new : List Bool} {s hi : ℕ} {b : Bool} {e : ℕ} (F : Fil
   }
     where
       w : (q : ℕ) → s ≤ q → q < e + 1 → Dec (q ≡ e) → getD old₀ q false ≡ not b
-      w q u v (yes p) = rw p (sym here-old ∙ bool-other (getD old e false) b (λ k. n (k ∙ sym t)))
+      w q u v (yes p) = rw p (sym here-old ∙ is-other (getD old e false) b (λ k. n (k ∙ sym t)))
       w q u v (no p) = F .was q u (omega arith)
 
       i : (q : ℕ) → s ≤ q → q < e + 1 → Dec (q ≡ e) → getD new q false ≡ b
@@ -153,6 +144,6 @@ next-some old old′ new r hi s e K n F = record {
   where
     go : s < hi → Dec (s ≡ e) → s < e
     go h (yes p) =
-        let q : getD old s false ≡ not (getD new s false) = bool-other (getD old s false) (getD new s false) (K .stop h) in
+        let q : getD old s false ≡ not (getD new s false) = is-other (getD old s false) (getD new s false) (K .stop h) in
         absurd (F .stop (omega arith) (ap (λ (x : ℕ). getD old x false) (sym p) ∙ q) (ap (λ (x : ℕ). getD new x false) (sym p)))
     go h (no p) = omega (arith, F .from)

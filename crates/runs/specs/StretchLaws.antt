@@ -18,7 +18,7 @@ use Rattle.grid.specs.Plane.{recordAt, lineOver}
 use Rattle.grid.specs.Compression.{turn-same}
 use Rattle.grid.specs.Places.{Rising}
 use Rattle.grid.specs.Scan.{emit, pending, pend-start, pend-keep, pend-emit, pend-end}
-use Rattle.ranks.specs.Ranks.{rank, rank-is, rising-at}
+use Rattle.ranks.specs.Ranks.{rising-at}
 use Rattle.runs.specs.declared.Stretch.{Stretch}
 use Rattle.runs.specs.Stretches.{turnBy, turning, Directs, RowsIn, NextIs, LineIn, Pace}
 
@@ -114,10 +114,6 @@ one-record (suc k) place a b true = refl
 one-record (suc k) place a b false = refl
 
 -- ---- one line
-
--- there is a direction along the line that agrees with the flags: at each coordinate that of its rank
-pub some-direction : (kind : ℕ) (mnr : List ℕ) (old new : List Bool) → Rising zero mnr → Directs (λ x. turnBy kind (getD old (rank mnr x) false) (getD new (rank mnr x) false)) kind mnr old new
-some-direction kind mnr old new r q h = rw (← rank-is mnr q (getD mnr q 0) r h refl)
 
 module _ {kind : ℕ} {mnr : List ℕ} {old₀ new : List Bool} {lo hi : ℕ} (ok : LineIn kind mnr old₀ new lo hi) where
   quiet-off : (h : ℕ → Dir) → Directs h kind mnr old₀ new → (q : ℕ) → q < length mnr → getD old₀ q false ≡ getD new q false → h (getD mnr q 0) ≡ off

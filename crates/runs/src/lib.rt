@@ -1,6 +1,6 @@
 // From the rows that were inside and those that are now, to the stretches of one line: as far as neighbouring rows change alike.
 ghost use mathlib.Core.Path.{_≡_};
-ghost use mathlib.Core.Bool.{true};
+ghost use mathlib.Core.Bool.{true, false, not};
 ghost use Prim.Native.Nat.{_+_, _≤_};
 ghost use Rattle.runs.specs.Stretches.{RowsIn, Quiet, Skipped, Filled, NextIs};
 
@@ -64,6 +64,16 @@ fn skip(old: &[bool], new: &[bool], r: usize, hi: usize) -> usize
     q
 }
 
+// Whether a row changes, and to b. A row that changes the other way is past a touching corner.
+fn comes_to(was: bool, is: bool, b: bool) -> bool
+    ensures { λ r. ⌜ (r ≡ true → (was ≡ is → ⊥) × (is ≡ b)) × (r ≡ false → was ≡ not b → is ≡ b → ⊥) ⌝ }
+{
+    if was == is {
+        return false;
+    }
+    is == b
+}
+
 // The rows from r on that become b, as far as they do: the stretch ends where nothing changes, and where the change turns at a touching corner.
 fn fill(old: &mut [bool], new: &[bool], r: usize, hi: usize, b: bool) -> usize
     requires { ⌜ RowsIn (now old) (now new) r hi ⌝ }
@@ -71,10 +81,7 @@ fn fill(old: &mut [bool], new: &[bool], r: usize, hi: usize, b: bool) -> usize
 {
     let mut q = r;
     while q < hi {
-        if old[q] == new[q] {
-            return q;
-        }
-        if new[q] != b {
+        if !comes_to(old[q], new[q], b) {
             return q;
         }
         old[q] = b;

@@ -2,17 +2,16 @@
 --
 --   Filled f ws out i   the first i places of out have f of those of ws
 --   fill-start, fill-more   before the loop, and one store more
---   map-at              a member of an image
 --   fresh-part          the length of a part of a fresh array
 --   filled-map, filled-same   at the end out is the image of ws; for a copy, ws itself
-use mathlib.Core.Path.{_≡_, refl, sym, ap, _∙_}
+use mathlib.Core.Path.{_≡_, sym, ap, _∙_}
 use mathlib.Core.Logic.{⊎-elim}
-use mathlib.Core.List.{List, [], _∷_, map}
-use Prim.Native.Nat.{ℕ, zero, suc, _+_, _-_, _<_, _≤_}
-use native.Mathlib.Nat.{not-suc-le-zero, le-of-suc-le-suc}
+use mathlib.Core.List.{List, map}
+use Prim.Native.Nat.{ℕ, _+_, _-_, _<_, _≤_}
 use native.Mathlib.Omega.{arith}
 use lib.ListN.{length, getD, set, take, replicate, length-set, length-map, length-replicate}
 use lib.Seq.{ext-getD, length-take-le}
+use Rattle.basics.specs.Lists.{map-at}
 use Rattle.sums.specs.Laws.{after-set}
 
 pub record Filled (f : ℕ → ℕ) (ws out : List ℕ) (i : ℕ) : Type 0 where
@@ -30,15 +29,10 @@ fill-more f ws out i v F h e = record {
   has = λ j l. ⊎-elim (λ Q. Q .1 ∙ e ∙ ap (λ n. f (getD ws n 0)) (sym (Q .0))) (λ Q. Q .1 ∙ F .has j (omega arith)) (after-set out i v j (omega (arith, F .long)));
 }
 
-pub map-at : (f : ℕ → ℕ) (ws : List ℕ) (j : ℕ) → j < length ws → getD (map f ws) j 0 ≡ f (getD ws j 0)
-map-at f [] j h = absurd (not-suc-le-zero h)
-map-at f (x ∷ xs) zero h = refl
-map-at f (x ∷ xs) (suc j) h = map-at f xs j (le-of-suc-le-suc h)
-
 pub filled-map : (f : ℕ → ℕ) (ws out : List ℕ) (i : ℕ) → Filled f ws out i → length ws ≤ i → out ≡ map f ws
 filled-map f ws out i F all =
     ext-getD 0 out (map f ws) (F .long ∙ sym (length-map ws f))
-    (λ j h. let l : j < length ws = omega (arith, F .long) in F .has j (omega arith) ∙ sym (map-at f ws j l))
+    (λ j h. let l : j < length ws = omega (arith, F .long) in F .has j (omega arith) ∙ sym (map-at f ws j 0 0 l))
 
 pub filled-same : (ws out : List ℕ) (i : ℕ) → Filled (λ w. w) ws out i → length ws ≤ i → out ≡ ws
 filled-same ws out i F all = ext-getD 0 out ws (F .long) (λ j h. F .has j (omega (arith, F .long)))

@@ -19,7 +19,8 @@ use native.Mathlib.Omega.{arith}
 use lib.ListN.{length, getD, set, take, drop, take-append-drop, length-drop}
 use lib.Seq.{take-suc, take-length, length-take-le, getD-take, getD-drop, getD-set-same, getD-set-other}
 use Rattle.meaning.specs.Numbers.{pick}
-use Rattle.basics.specs.Sums.{sumOf, sum-append}
+use Rattle.basics.specs.Sums.{sumOf, sum-append, sum-all}
+use Rattle.basics.specs.Lists.{all-of}
 use Rattle.sums.specs.Sums.{sumTo, Perm}
 
 pub below-or : (p q : ℕ) → (p < q) ⊎ (q ≤ p)
@@ -70,8 +71,7 @@ pub sum-is : {A : Type 0} (f : A → ℕ) (xs : List A) (d : A) → sumOf f xs �
 sum-is f xs d = ap (sumOf f) (sym (take-length xs)) ∙ sum-places f xs d (length xs) (omega arith)
 
 pub sum-same : {A : Type 0} (f g : A → ℕ) (xs : List A) (d : A) → ((p : ℕ) → p < length xs → f (getD xs p d) ≡ g (getD xs p d)) → sumOf f xs ≡ sumOf g xs
-sum-same f g xs d e =
-    sum-is f xs d ∙ sumTo-same (length xs) (λ i. f (getD xs i d)) (λ i. g (getD xs i d)) e ∙ sym (sum-is g xs d)
+sum-same f g xs d e = sum-all f g xs (all-of (λ x. f x ≡ g x) xs d e)
 
 sum-zero : {A : Type 0} (xs : List A) → sumOf (λ x. 0) xs ≡ 0
 unfolding sumOf

@@ -7,13 +7,14 @@
 --   Front before text after n           the n bytes of `text` stand at the front of `after`, and then what stood in `before`; there was room for them
 --   one-front                           such a buffer and such a length are the only ones
 --   at-front                            a text from place 0 on
-use mathlib.Core.Path.{_≡_, refl, sym, ap, _∙_, subst}
+use mathlib.Core.Path.{_≡_, refl, sym, _∙_, subst}
 use mathlib.Core.List.{List, [], _∷_, _++_}
-use Prim.Native.Nat.{ℕ, suc, _+_, _≤_}
+use Prim.Native.Nat.{ℕ, _+_, _≤_}
 use native.Mathlib.Omega.{arith}
 use native.Mathlib.Nat.{zero-add, add-zero}
 use lib.ListN.{length, drop, set, length-append}
 use lib.Seq.{sets, sets-eq}
+use Rattle.basics.specs.Stores.{sets-append}
 
 pub record Written (before : List ℕ) (at : ℕ) (text after : List ℕ) (next : ℕ) : Type 0 where
   pub buffer : after ≡ sets before at text
@@ -21,12 +22,6 @@ pub record Written (before : List ℕ) (at : ℕ) (text after : List ℕ) (next 
 
 pub one-writing : {l t m n : List ℕ} {i j k : ℕ} → Written l i t m j → Written l i t n k → (m ≡ n) × (j ≡ k)
 one-writing p q = (p .buffer ∙ sym (q .buffer), p .place ∙ sym (q .place))
-
-sets-append : (l : List ℕ) (i : ℕ) (s t : List ℕ) → sets l i (s ++ t) ≡ sets (sets l i s) (i + length s) t
-sets-append l i [] t = ap (λ (k : ℕ). sets l k t) (sym (add-zero i))
-sets-append l i (b ∷ s) t =
-    let e : suc i + length s ≡ i + suc (length s) = omega arith in
-    sets-append (set l i b) (suc i) s t ∙ ap (λ (k : ℕ). sets (sets (set l i b) (suc i) s) k t) e
 
 pub nothing : (l : List ℕ) (i : ℕ) → Written l i [] l i
 nothing l i = record { buffer = refl; place = sym (add-zero i) }
@@ -36,7 +31,7 @@ one-byte l i b = record { buffer = refl; place = refl }
 
 pub and-then : {l m n s t : List ℕ} {i j k : ℕ} → Written l i s m j → Written m j t n k → Written l i (s ++ t) n k
 and-then {l} {m} {n} {s} {t} {i} {j} {k} p q = record {
-  buffer = q .buffer ∙ rw (p .buffer, p .place) (sym (sets-append l i s t));
+  buffer = q .buffer ∙ rw (p .buffer, p .place) (sets-append s t l i);
   place = rw length-append (omega (arith, p .place, q .place));
 }
 

@@ -4,7 +4,7 @@ use mathlib.Core.Bool.{Bool, true, false}
 use mathlib.Core.List.{List, [], _∷_, map}
 use Prim.Native.Nat.{ℕ, _+_, _*_, _-_, _%_, _^_, _<_, _≤_}
 use native.Mathlib.Omega.{arith}
-use native.Mathlib.Nat.{mul-zero, mul-le-mul}
+use native.Mathlib.Nat.{mul-le-mul}
 use lib.ListN.{getD}
 use Rattle.meaning.specs.Cells.{Dir, off}
 use Rattle.meaning.specs.Records.{run}
@@ -12,6 +12,7 @@ use Rattle.grid.specs.Plane.{recordAt, lineOver}
 use Rattle.basics.specs.Sums.{sumOf}
 use Rattle.grid.specs.Wrap.{owes-add, owes-sub}
 use Rattle.grid.specs.Scan.{pending}
+use Rattle.grid.specs.AreaLaws.{times-none}
 use Rattle.runs.specs.declared.Stretch.{Stretch}
 use Rattle.runs.specs.Stretches.{turning, Directs, NextIs, LineIn, Pace}
 use Rattle.runs.specs.StretchLaws.{pace-start, pace-turn, pace-told, pending-start, records-turn, pending-done}
@@ -26,15 +27,12 @@ size-less y a b ok = omega (arith, mul-le-mul (ok .place) bound)
     bound : b - a ≤ 2147483648
     bound = omega (arith, ok .top)
 
-none : (y m : ℕ) → m ≡ 0 → y * m ≡ 0
-none y m e = ap (_*_ y) e ∙ mul-zero y
-
 -- a stretch that came inside goes west
 pub weigh-west : (sum y a b w r : ℕ) (inside : Bool) → inside ≡ true → a ≤ b → w ≡ y * (b - a) → (r + w) % 2 ^ 64 ≡ sum → Weighed sum (recordAt 0 y (run a b (turning 0 inside)) ∷ []) r
 unfolding sumOf
 weigh-west sum y a b w r true t h e q = record {
   owes = λ P M o.
-      let p : P + (y * (a - b) + 0) ≡ P = omega (arith, none y (a - b) (omega arith)) in
+      let p : P + (y * (a - b) + 0) ≡ P = omega (arith, times-none y (a - b) (omega arith)) in
       let m : M + (y * (b - a) + 0) ≡ M + w = omega arith in
       rw (p, m) (owes-sub sum w P M r o q);
 }
@@ -45,7 +43,7 @@ unfolding sumOf
 weigh-east sum y a b w r false t h e q = record {
   owes = λ P M o.
       let p : P + (y * (b - a) + 0) ≡ P + w = omega arith in
-      let m : M + (y * (a - b) + 0) ≡ M = omega (arith, none y (a - b) (omega arith)) in
+      let m : M + (y * (a - b) + 0) ≡ M = omega (arith, times-none y (a - b) (omega arith)) in
       rw (p, m) (owes-add sum w P M r o q);
 }
 weigh-east sum y a b w r true t h e q = absurd (let z : _≡_ {A = ℕ} 0 1 = cc in omega arith)

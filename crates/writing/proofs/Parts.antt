@@ -61,12 +61,12 @@ copy-turn out₀ src out i z e h g =
     let m : 0 + suc i ≡ suc i = omega arith in
     rw (e, add-one) (rw (n, m) at (paste-suc out₀ 0 src i z (omega arith) h))
 
-pub gather-many : (loc loc₁ : List ℤ) (rs ss : List (Record ℕ)) (h v : ℕ) → h ≡ length rs → v ≡ length ss → h ≤ 134217728 → v ≤ 134217728 → 8192 < h → Gathered loc rs ss loc₁ (record { level = h; upright = v })
+pub gather-many : (loc loc₁ : List ℤ) (rs ss : List (Record ℕ)) (h v : ℕ) → h ≡ length rs → v ≡ length ss → h ≤ 134217728 → v ≤ 134217728 → length loc < h * 4 → Gathered loc rs ss loc₁ (record { level = h; upright = v })
 gather-many loc loc₁ rs ss h v p q a b l = record { level-is = p; upright-is = q; less = (a, b); few = λ u. let z : ⊥ = omega arith in absurd z }
 
-pub gather-few : (loc loc₁ ys : List ℤ) (rs ss : List (Record ℕ)) (h v s : ℕ) → s ≡ h * 4 → h ≡ length rs → v ≡ length ss → h ≤ 134217728 → v ≤ 134217728 → length loc ≡ 32768 → loc₁ ≡ emitted loc 0 rs →
+pub gather-few : (loc loc₁ ys : List ℤ) (rs ss : List (Record ℕ)) (h v s : ℕ) → s ≡ h * 4 → h ≡ length rs → v ≡ length ss → h ≤ 134217728 → v ≤ 134217728 → loc₁ ≡ emitted loc 0 rs →
     ys ≡ emitted (take (length loc₁ - s) (drop s loc₁)) 0 ss → Gathered loc rs ss (putMid s (length loc₁ - s) loc₁ ys) (record { level = h; upright = v })
-gather-few loc loc₁ ys rs ss h v s w p q a b l e f =
+gather-few loc loc₁ ys rs ss h v s w p q a b e f =
     record { level-is = p; upright-is = q; less = (a, b); few = λ u. both-written loc rs ss h p (omega arith) s loc₁ ys w e f }
 
 pub ungathered : (out loc₀ loc : List ℤ) (rs : List (Record ℕ)) (n : ℕ) → n ≡ length rs → loc ≡ written loc₀ rs → take (n * 4) loc ++ drop (n * 4) out ≡ written out rs

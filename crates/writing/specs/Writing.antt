@@ -47,12 +47,12 @@ pub record BothOk (hs vs xs ys : List ℕ) (truth : List Bool) : Type 0 where
   pub level : SweepOk 0 hs ys xs truth
   pub upright : SweepOk 1 vs xs ys truth
 
--- the records rs and ss were counted, and stand in the list where they are few
+-- the records rs and ss were counted, and stand in the list where it has room for them
 pub record Gathered (loc₀ : List ℤ) (rs ss : List (Record ℕ)) (loc : List ℤ) (r : Both) : Type 0 where
   pub level-is : r .level ≡ length rs
   pub upright-is : r .upright ≡ length ss
   pub less : (r .level ≤ 134217728) × (r .upright ≤ 134217728)
-  pub few : r .level + r .upright ≤ 8192 → loc ≡ written loc₀ (rs ++ ss)
+  pub few : (r .level + r .upright) * 4 ≤ length loc₀ → loc ≡ written loc₀ (rs ++ ss)
 
 -- r and out′ are the answer and the buffer for the records rs
 pub record WroteFor (rs : List (Record ℕ)) (out out′ : List ℤ) (r : Written) : Type 0 where

@@ -14,8 +14,11 @@ pub enum Written {
     Short(u64),
 }
 
-// The records that are gathered before it is known whether there is room: up to these the sweeps are made once, beyond them twice.
-const GATHERED: usize = 8192;
+// A call of so few corners, and the numbers of records for which it has room to gather them before it is known whether the caller has; and those of
+// any other call. Up to these the sweeps are made once, beyond them twice.
+const FEW_CORNERS: usize = 1024;
+const FEW: usize = 8192;
+const MANY: usize = 65536;
 
 // How many records of each kind there are.
 pub struct Both {
@@ -51,20 +54,20 @@ fn place(out: &mut [i32], n: usize, hs: &[u32], vs: &[u32], xs: &[u32], ys: &[u3
     sweep::records(&mut out[start..], 1, vs, xs, ys, truth);
 }
 
-// Counts the records, and has them in loc where they are few enough.
+// Counts the records, and has them in loc where there is room for them.
 fn gather(loc: &mut [i32], hs: &[u32], vs: &[u32], xs: &[u32], ys: &[u32], truth: &[bool]) -> Both
-    requires { ⌜ BothOk (now hs) (now vs) (now xs) (now ys) (now truth) × (length (now loc) ≡ 32768) ⌝ }
+    requires { ⌜ BothOk (now hs) (now vs) (now xs) (now ys) (now truth) ⌝ }
     ensures { λ r. ⌜ Gathered (now (loc .entry)) (swept 0 (now (hs .entry)) (now (ys .entry)) (now (xs .entry)) (now (truth .entry))) (swept 1 (now (vs .entry)) (now (xs .entry)) (now (ys .entry)) (now (truth .entry))) (now (loc .exit)) r ⌝ }
 {
     let h = sweep::records(loc, 0, hs, ys, xs, truth);
-    if GATHERED < h {
+    let start = start_of(h);
+    if loc.len() < start {
         let v = count(1, vs, xs, ys, truth);
         return Both {
             level: h,
             upright: v,
         };
     }
-    let start = start_of(h);
     let v = sweep::records(&mut loc[start..], 1, vs, xs, ys, truth);
     Both {
         level: h,
@@ -84,6 +87,34 @@ fn copy_in(out: &mut [i32], src: &[i32], n: usize)
     }
 }
 
+// The records of both kinds, with room to gather them in.
+fn write_by(
+    out: &mut [i32],
+    loc: &mut [i32],
+    hs: &[u32],
+    vs: &[u32],
+    xs: &[u32],
+    ys: &[u32],
+    truth: &[bool],
+) -> Written
+    requires { ⌜ BothOk (now hs) (now vs) (now xs) (now ys) (now truth) ⌝ }
+    ensures { λ r. ⌜ Wrote (now (hs .entry)) (now (vs .entry)) (now (xs .entry)) (now (ys .entry)) (now (truth .entry)) (now (out .entry)) (now (out .exit)) r ⌝ }
+{
+    let both = gather(loc, hs, vs, xs, ys, truth);
+    let h = both.level;
+    let all = h + both.upright;
+    let n = start_of(all);
+    if out.len() < n {
+        return Written::Short(all as u64);
+    }
+    if n <= loc.len() {
+        copy_in(out, loc, n);
+        return Written::All(all as u64);
+    }
+    place(out, h, hs, vs, xs, ys, truth);
+    Written::All(all as u64)
+}
+
 // The records of both kinds, in order: hs are the corners' keys by y, vs by x, and xs and ys the tables of their coordinates.
 pub fn write(
     out: &mut [i32],
@@ -96,18 +127,10 @@ pub fn write(
     requires { ⌜ BothOk (now hs) (now vs) (now xs) (now ys) (now truth) ⌝ }
     ensures { λ r. ⌜ Wrote (now (hs .entry)) (now (vs .entry)) (now (xs .entry)) (now (ys .entry)) (now (truth .entry)) (now (out .entry)) (now (out .exit)) r ⌝ }
 {
-    let mut loc = [0i32; GATHERED * 4];
-    let both = gather(&mut loc, hs, vs, xs, ys, truth);
-    let h = both.level;
-    let all = h + both.upright;
-    if out.len() < start_of(all) {
-        return Written::Short(all as u64);
+    if hs.len() <= FEW_CORNERS {
+        let mut loc = [0i32; FEW];
+        return write_by(out, &mut loc, hs, vs, xs, ys, truth);
     }
-    if all <= GATHERED {
-        let n = start_of(all);
-        copy_in(out, &loc, n);
-        return Written::All(all as u64);
-    }
-    place(out, h, hs, vs, xs, ys, truth);
-    Written::All(all as u64)
+    let mut loc = [0i32; MANY];
+    write_by(out, &mut loc, hs, vs, xs, ys, truth)
 }

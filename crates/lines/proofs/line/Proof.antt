@@ -1,15 +1,13 @@
 -- `lines::line` meets its contract. The loop: what is pending comes to the whole line. Assumes nothing.
 use borrow.Author.Needs.{needs}
 use native.Mathlib.Omega.{arith}
-use Prim.Native.Nat.{ℕ, _-_, _≤_, _<_}
+use lib.Arith.{lt-of-le-ne}
+use Prim.Native.Nat.{_-_, _≤_, _<_}
 use mathlib.Core.Path.{_≡_}
 use Rattle.runs.specs.StretchLaws.{rows-in, ends-in}
 use Rattle.lines.proofs.LineLaws.{Lining, line-start, line-turn, line-done, line-quiet}
 use Rattle.lines.proofs.line.Statement.{statement}
 use Rattle.lines.proofs.line.Tie as tie
-
-less : {s hi : ℕ} → s ≤ hi → (s ≡ hi → ⊥) → s < hi
-less h n = omega arith
 
 abbrev Inv-loop : tie.InvT-loop
 Inv-loop out₀ n kind place mnr old₀ new lo hi k₀ r₀ out old k r = Lining out₀ n kind place mnr new old₀ lo hi out old k r
@@ -60,12 +58,12 @@ add-k c =
 loop-less : tie.Need-loop-less Inv-loop μ-loop
 loop-less c =
     let K = c .before .before .before .before .before .before .before .before .next .ensures in
-    omega (arith, K .from, K .filled .to, K .some (less (omega (arith, K .filled .from, K .filled .to)) (c .before .before .before .before .before .if1 .left)))
+    omega (arith, K .from, K .filled .to, K .some (lt-of-le-ne (omega (arith, K .filled .from, K .filled .to)) (c .before .before .before .before .before .if1 .left)))
 
 loop-again : tie.Need-loop-again Inv-loop μ-loop
 loop-again c =
     let K = c .before .before .before .before .before .before .before .before .next .ensures in
-    let l = less (omega (arith, K .filled .from, K .filled .to)) (c .before .before .before .before .before .if1 .left) in
+    let l = lt-of-le-ne (omega (arith, K .filled .from, K .filled .to)) (c .before .before .before .before .before .if1 .left) in
     line-turn (c .before .before .before .before .before .before .before .before .before .before .before .before .before .before .before .pre .1) _ _ (c .before .before .before .before .before .before .before .before .before .before .before .loop .inv) K l (c .before .emit .ensures) (c .before .emit .kept .0)
 
 same-length-3 : tie.Need-same-length-3 Inv-loop μ-loop

@@ -1,15 +1,13 @@
 -- `weights::weigh` meets its contract. The loop: whoever weighs what is pending has weighed the whole line. Assumes nothing.
 use borrow.Author.Needs.{needs}
 use native.Mathlib.Omega.{arith}
-use Prim.Native.Nat.{ℕ, _-_, _≤_, _<_}
+use lib.Arith.{lt-of-le-ne}
+use Prim.Native.Nat.{_-_, _≤_, _<_}
 use mathlib.Core.Path.{_≡_}
 use Rattle.runs.specs.StretchLaws.{rows-in, ends-in, stretch-order}
 use Rattle.weights.proofs.Weighing.{Weighing, weigh-start, weigh-turn, weigh-done, weigh-quiet}
 use Rattle.weights.proofs.weigh.Statement.{statement}
 use Rattle.weights.proofs.weigh.Tie as tie
-
-less : {s hi : ℕ} → s ≤ hi → (s ≡ hi → ⊥) → s < hi
-less h n = omega arith
 
 abbrev Inv-loop : tie.InvT-loop
 Inv-loop sum y xs old₀ new lo hi acc₀ r₀ old acc r = Weighing sum y xs new old₀ lo hi acc old r
@@ -51,12 +49,12 @@ weighed-requires c κs =
 loop-less : tie.Need-loop-less Inv-loop μ-loop
 loop-less c =
     let K = c .before .before .before .before .before .before .next .ensures in
-    omega (arith, K .from, K .filled .to, K .some (less (omega (arith, K .filled .from, K .filled .to)) (c .before .before .before .if1 .left)))
+    omega (arith, K .from, K .filled .to, K .some (lt-of-le-ne (omega (arith, K .filled .from, K .filled .to)) (c .before .before .before .if1 .left)))
 
 loop-again : tie.Need-loop-again Inv-loop μ-loop
 loop-again c =
     let K = c .before .before .before .before .before .before .next .ensures in
-    let l = less (omega (arith, K .filled .from, K .filled .to)) (c .before .before .before .if1 .left) in
+    let l = lt-of-le-ne (omega (arith, K .filled .from, K .filled .to)) (c .before .before .before .if1 .left) in
     weigh-turn (c .before .before .before .before .before .before .before .before .before .before .before .before .before .pre .1) _ _ (c .before .before .before .before .before .before .before .before .before .loop .inv) K l (c .weighed .ensures)
 
 same-length-2 : tie.Need-same-length-2 Inv-loop μ-loop

@@ -6,26 +6,22 @@ use lib.Dec.{T}
 use native.Mathlib.Omega.{arith}
 use mir.Syntax.{w32, w64}
 use mir.Val.{Fits, SFits, toZ, ofZ}
-use mir.Facts.{toZ-ofZ, sfits-widen, sfits-lit}
-use Rattle.basics.specs.Signed.{keyOf}
-use Rattle.basics.specs.Signed.{key-up, key-fits}
+use mir.Facts.{toZ-ofZ}
+use Rattle.basics.specs.Signed.{keyOf, key-up, key-fits, widens, widened}
 use Rattle.whole.proofs.key.Statement.{statement}
 use Rattle.whole.proofs.key.Tie as tie
-
-chain : (z : ℤ) → SFits w32 z → toZ w64 (ofZ w64 (toZ w32 (ofZ w32 z))) ≡ z
-chain z h = rw (toZ-ofZ h) (toZ-ofZ (sfits-widen tt h))
 
 wide : (z : ℤ) → SFits w32 z → SFits w64 (pos (keyOf z))
 wide z h = record { sfits = omega (arith, key-fits z (h .sfits)) }
 
 sum : (z : ℤ) → SFits w32 z → toZ w64 (ofZ w64 (toZ w32 (ofZ w32 z))) +ℤ pos 2147483648 ≡ pos (keyOf z)
-sum z h = ap (λ (x : ℤ). x +ℤ pos 2147483648) (chain z h) ∙ key-up z (h .sfits)
+sum z h = ap (λ (x : ℤ). x +ℤ pos 2147483648) (widened z h) ∙ key-up z (h .sfits)
 
 back : (z : ℤ) → SFits w32 z → toZ w64 (ofZ w64 (toZ w64 (ofZ w64 (toZ w32 (ofZ w32 z))) +ℤ pos 2147483648)) ≡ pos (keyOf z)
 back z h = ap (λ (x : ℤ). toZ w64 (ofZ w64 x)) (sum z h) ∙ toZ-ofZ (wide z h)
 
 cast-w : tie.Need-cast-w
-cast-w c = rw (toZ-ofZ (c .fits .z)) (sfits-widen tt (c .fits .z))
+cast-w c = widens (c .args .z) (c .fits .z)
 
 add-result : tie.Need-add-result
 add-result c = subst (SFits w64) (sym (sum (c .args .z) (c .fits .z))) (wide (c .args .z) (c .fits .z))
