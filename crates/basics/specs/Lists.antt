@@ -8,16 +8,17 @@
 --   number-none          a test that no element passes counts none
 --   number-append, number-to-map   of lists put together, and of images
 --   map-append, map-at   the image of lists put together, and an element of an image
-use mathlib.Core.Path.{_≡_, refl, sym, ap, ap₂}
+use mathlib.Core.Path.{_≡_, refl, sym, ap, ap₂, _∙_}
 use mathlib.Core.Bool.{Bool, true, false, _&&_}
 use mathlib.Core.List.{List, [], _∷_, _++_, map}
 use Prim.Native.Nat.{ℕ, zero, suc, _+_, _<_}
 use native.Mathlib.Omega.{arith}
-use native.Mathlib.Nat.{zero-add, not-suc-le-zero, le-of-suc-le-suc}
+use native.Mathlib.Nat.{not-suc-le-zero, le-of-suc-le-suc}
 use lib.ListN.{length, getD}
 use Rattle.meaning.specs.Numbers.{bit}
 use Rattle.meaning.specs.Edges.{number}
 use Rattle.basics.specs.Tests.{and-left, and-right}
+use Rattle.basics.specs.Sums.{number-sum, sum-append, sum-map, sum-all}
 pub use Rattle.meaning.specs.Rings.{All}
 
 pub record At (xs : List ℕ) (v : ℕ) : Type 0 where
@@ -60,9 +61,7 @@ all-by p [] h = tt
 all-by p (x ∷ xs) h = (and-left (p x) (allBy p xs) h, all-by p xs (and-right (p x) (allBy p xs) h))
 
 pub number-same : {A : Type 0} (p q : A → Bool) (xs : List A) → All (λ x. p x ≡ q x) xs → number p xs ≡ number q xs
-unfolding number
-number-same p q [] h = refl
-number-same p q (x ∷ xs) h = ap₂ (λ (b : Bool) (n : ℕ). bit b + n) (h .0) (number-same p q xs (h .1))
+number-same p q xs h = number-sum p xs ∙ sum-all (λ x. bit (p x)) (λ x. bit (q x)) xs (all-map (λ x. p x ≡ q x) (λ x. bit (p x) ≡ bit (q x)) xs (λ x e. ap bit e) h) ∙ sym (number-sum q xs)
 
 pub number-none : {A : Type 0} (p : A → Bool) (xs : List A) → All (λ x. p x ≡ false) xs → number p xs ≡ 0
 unfolding number
@@ -70,14 +69,10 @@ number-none p [] h = refl
 number-none p (x ∷ xs) h = ap₂ (λ (b : Bool) (n : ℕ). bit b + n) (h .0) (number-none p xs (h .1))
 
 pub number-append : {A : Type 0} (p : A → Bool) (xs ys : List A) → number p (xs ++ ys) ≡ number p xs + number p ys
-unfolding number
-number-append p [] ys = sym (zero-add (number p ys))
-number-append p (x ∷ xs) ys = omega (arith, number-append p xs ys)
+number-append p xs ys = number-sum p (xs ++ ys) ∙ sum-append (λ x. bit (p x)) xs ys ∙ sym (ap₂ _+_ (number-sum p xs) (number-sum p ys))
 
 pub number-to-map : {A B : Type 0} (p : B → Bool) (f : A → B) (xs : List A) → number p (map f xs) ≡ number (λ x. p (f x)) xs
-unfolding number
-number-to-map p f [] = refl
-number-to-map p f (x ∷ xs) = ap (_+_ (bit (p (f x)))) (number-to-map p f xs)
+number-to-map p f xs = number-sum p (map f xs) ∙ sum-map (λ x. bit (p x)) f xs ∙ sym (number-sum (λ x. p (f x)) xs)
 
 pub map-append : {A B : Type 0} (f : A → B) (xs ys : List A) → map f (xs ++ ys) ≡ map f xs ++ map f ys
 map-append f [] ys = refl

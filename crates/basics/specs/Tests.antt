@@ -4,6 +4,8 @@
 --   and-off, and-on, or-true   `&&` and `||` with a half that is known
 --   not-self, is-other    a truth value is not its own contrary; what it is not, it is the contrary of
 --   bit-le                a truth value as a number is at most 1
+--   pick-and              what is counted where a test holds is counted by both tests
+--   one-column, one-corner   the tests of one edge: its sides at a column, and its ends
 --   and-parts             two tests that exclude each other, and what they make together, behind one test
 --   not-leb               below is not at-or-above
 --   ltb-more              one number more is below
@@ -17,7 +19,7 @@ use native.Mathlib.Omega.{arith}
 use native.Mathlib.Decide.{decLt, ℕ-discrete}
 use lib.Dec.{leb, ltb, eqb}
 use borrow.Author.Tests.{lt-ltb, le-ltb, le-leb, lt-leb, leb-true, eq-eqb, ne-eqb, eqb-true}
-use Rattle.meaning.specs.Numbers.{bit}
+use Rattle.meaning.specs.Numbers.{bit, pick}
 
 pub and-left : (p q : Bool) → (p && q) ≡ true → p ≡ true
 and-left true q e = refl
@@ -52,6 +54,29 @@ is-other false false n = absurd (n refl)
 pub bit-le : (b : Bool) → bit b ≤ 1
 bit-le true = omega arith
 bit-le false = omega arith
+
+pub pick-and : (a p : Bool) → pick a (bit p) 0 ≡ bit (p && a)
+pick-and true true = refl
+pick-and true false = refl
+pick-and false true = refl
+pick-and false false = refl
+
+-- p its layer, a and b whether its from and its to are at or before the column, q its height
+pub one-column : (p a b : Bool) → bit (p && (b && not a)) + bit (p && a) ≡ bit (p && (a && not b)) + bit (p && b)
+one-column false a b = refl
+one-column true true true = refl
+one-column true true false = refl
+one-column true false true = refl
+one-column true false false = refl
+
+pub one-corner : (p q a b : Bool) → bit ((p && (b && not a)) && q) + bit ((p && a) && q) ≡ bit ((p && (a && not b)) && q) + bit ((p && b) && q)
+one-corner false q a b = refl
+one-corner true q true true = refl
+one-corner true q false false = refl
+one-corner true true true false = refl
+one-corner true true false true = refl
+one-corner true false true false = refl
+one-corner true false false true = refl
 
 pub and-parts : (t a b c : Bool) → bit a + bit b ≡ bit c → bit (t && a) + bit (t && b) ≡ bit (t && c)
 and-parts true a b c e = e

@@ -7,10 +7,11 @@
 use mathlib.Core.Path.{_≡_, refl, sym, ap, ap₂, _∙_}
 use mathlib.Core.Bool.{Bool, true, false, _&&_}
 use mathlib.Core.Logic.{_⊎_, inl, inr}
-use mathlib.Core.List.{List, [], _∷_}
+use mathlib.Core.List.{List}
 use Prim.Native.Nat.{ℕ, _+_, _*_, _≤_, _<_}
 use native.Mathlib.Decide.{decLt}
 use native.Mathlib.Omega.{arith}
+use native.Mathlib.Nat.{zero-add, add-zero}
 use lib.Dec.{leb, eqb}
 use lib.IntN.{ℤ, pos, natAbs, negℤ}
 use lib.Signed.{leZ, ltZ}
@@ -18,7 +19,7 @@ use lib.ListN.{length, getD}
 use borrow.Author.Tests.{ne-eqb}
 use Rattle.meaning.specs.Numbers.{bit, inRange, step, pick}
 use Rattle.meaning.specs.Edges.{Edge, edge, on, number, Closed, soundEdge}
-use Rattle.basics.specs.Tests.{eqb-same}
+use Rattle.basics.specs.Tests.{eqb-same, pick-and}
 use Rattle.basics.specs.Lists.{all-map, all-at, number-same}
 use Rattle.basics.specs.Signed.{eqZ-natural, lt-le}
 use Rattle.basics.specs.Steps.{lift, step-lift, le-lift, beyond}
@@ -26,7 +27,7 @@ use Rattle.basics.specs.Fours.{none, layerOf, fromOf, toOf}
 use Rattle.basics.specs.Sound.{Sound, sound-parts, layer-low}
 use Rattle.laws.specs.Columns.{toUpTo, fromUpTo, closed-up-to, up-to-closed}
 use Rattle.laws.specs.Covered.{low, high}
-use Rattle.basics.specs.Sums.{sumOf}
+use Rattle.basics.specs.Sums.{number-sum}
 use Rattle.sums.specs.Sums.{sumTo}
 use Rattle.sums.specs.Laws.{sum-is, sumTo-same, sumTo-twice}
 use Rattle.sums.specs.Pairs.{Pairs}
@@ -45,35 +46,16 @@ pub data Weighed (es : List (Edge ℤ)) : Balance → Type 0 where
 
 -- ---- numbers of edges, edge by edge
 
-number-total : (p : Edge ℤ → Bool) (es : List (Edge ℤ)) → number p es ≡ sumOf (λ e. bit (p e)) es
-unfolding number sumOf
-number-total p [] = refl
-number-total p (e ∷ es) = ap (λ n. bit (p e) + n) (number-total p es)
-
 number-is : (p : Edge ℤ → Bool) (es : List (Edge ℤ)) → number p es ≡ sumTo (length es) (λ j. bit (p (getD es j none)))
-number-is p es = number-total p es ∙ sum-is (λ e. bit (p e)) es none
+number-is p es = number-sum p es ∙ sum-is (λ e. bit (p e)) es none
 
 -- ---- one edge: its layer l, its ends a and b, the layer c and the place k
 
 pick-from : (p u v : Bool) → pick u (bit p) 0 + pick v (bit false) 0 ≡ bit (p && u)
-pick-from true true true = refl
-pick-from true true false = refl
-pick-from true false true = refl
-pick-from true false false = refl
-pick-from false true true = refl
-pick-from false true false = refl
-pick-from false false true = refl
-pick-from false false false = refl
+pick-from p u v = ap₂ _+_ (pick-and u p) (pick-and v false) ∙ add-zero (bit (p && u))
 
 pick-to : (p u v : Bool) → pick u (bit false) 0 + pick v (bit p) 0 ≡ bit (p && v)
-pick-to true true true = refl
-pick-to true true false = refl
-pick-to true false true = refl
-pick-to true false false = refl
-pick-to false true true = refl
-pick-to false true false = refl
-pick-to false false true = refl
-pick-to false false false = refl
+pick-to p u v = ap₂ _+_ (pick-and u false) (pick-and v p) ∙ zero-add (bit (p && v))
 
 pair-from : (l c a b k : ℕ) → pick (leb a k) (bit (eqb (l * 2) (c + c))) 0 + pick (leb b k) (bit (eqb (l * 2 + 1) (c + c))) 0 ≡ bit (eqb l c && leb a k)
 pair-from l c a b k =

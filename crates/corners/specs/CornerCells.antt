@@ -14,6 +14,7 @@ use Rattle.grid.specs.Places.{has, has-head, Rising}
 use Rattle.grid.specs.Corners.{toBy, fromBy, tos, froms, covers-corners}
 use Rattle.basics.specs.Sums.{sumOf, sum-map, sum-all}
 use Rattle.basics.specs.Lists.{All, all-map}
+use Rattle.basics.specs.Tests.{pick-and, and-off, and-on}
 use Rattle.ranks.specs.Ranks.{rank, rank-in, has-cons}
 use Rattle.keys.specs.Key.{marked}
 use Rattle.keys.specs.KeyLaws.{major-key, minor-key, layer-key, way-key}
@@ -53,59 +54,40 @@ counted-corners ks maj mnr cs w l p q rj rn few a K =
 
 -- ---- the corners of edges
 
+-- a corner that goes the other way, and one that goes this way
 none : (a b c : Bool) → pick a (pick b (bit (c && false)) 0) 0 ≡ 0
-none true true true = refl
-none true true false = refl
-none true false true = refl
-none true false false = refl
-none false true true = refl
-none false true false = refl
-none false false true = refl
-none false false false = refl
+none a b c = rw (and-off c, pick-and b false, pick-and a false)
 
-across-along : (a b c : Bool) → pick a (pick b (bit (c && true)) 0) 0 ≡ bit (b && (a && c))
-across-along true true true = refl
-across-along true true false = refl
-across-along true false true = refl
-across-along true false false = refl
-across-along false true true = refl
-across-along false true false = refl
-across-along false false true = refl
-across-along false false false = refl
+both : (a b c : Bool) → pick a (pick b (bit (c && true)) 0) 0 ≡ bit ((c && b) && a)
+both a b c = rw (and-on c, pick-and b c, pick-and a (c && b))
 
-along-across : (a b c : Bool) → pick a (pick b (bit (c && true)) 0) 0 ≡ bit (a && (b && c))
-along-across true true true = refl
-along-across true true false = refl
-along-across true false true = refl
-along-across true false false = refl
-along-across false true true = refl
-along-across false true false = refl
-along-across false false true = refl
-along-across false false false = refl
+swapped : (a b c : Bool) → pick a (pick b (bit (c && true)) 0) 0 ≡ bit ((c && a) && b)
+swapped true b c = rw (and-on c, pick-and b c)
+swapped false b c = rw (and-off c)
 
 level-tos : (es : List (Edge ℕ)) (c i j : ℕ) → countIn (cornersOf 0 es) 1 c j i ≡ tos es c i j
 unfolding countIn cornersOf sumOf tos number toBy
 level-tos [] c i j = refl
 level-tos (edge l y f t ∷ es) c i j =
-    omega (arith, none (leb y j) (leb f i) (eqb l c), across-along (leb y j) (leb t i) (eqb l c), level-tos es c i j)
+    omega (arith, none (leb y j) (leb f i) (eqb l c), both (leb y j) (leb t i) (eqb l c), level-tos es c i j)
 
 level-froms : (es : List (Edge ℕ)) (c i j : ℕ) → countIn (cornersOf 0 es) 0 c j i ≡ froms es c i j
 unfolding countIn cornersOf sumOf froms number fromBy
 level-froms [] c i j = refl
 level-froms (edge l y f t ∷ es) c i j =
-    omega (arith, none (leb y j) (leb t i) (eqb l c), across-along (leb y j) (leb f i) (eqb l c), level-froms es c i j)
+    omega (arith, none (leb y j) (leb t i) (eqb l c), both (leb y j) (leb f i) (eqb l c), level-froms es c i j)
 
 upright-tos : (es : List (Edge ℕ)) (c i j : ℕ) → countIn (cornersOf 1 es) 1 c i j ≡ tos es c i j
 unfolding countIn cornersOf sumOf tos number toBy
 upright-tos [] c i j = refl
 upright-tos (edge l y f t ∷ es) c i j =
-    omega (arith, none (leb f i) (leb y j) (eqb l c), along-across (leb t i) (leb y j) (eqb l c), upright-tos es c i j)
+    omega (arith, none (leb f i) (leb y j) (eqb l c), swapped (leb t i) (leb y j) (eqb l c), upright-tos es c i j)
 
 upright-froms : (es : List (Edge ℕ)) (c i j : ℕ) → countIn (cornersOf 1 es) 0 c i j ≡ froms es c i j
 unfolding countIn cornersOf sumOf froms number fromBy
 upright-froms [] c i j = refl
 upright-froms (edge l y f t ∷ es) c i j =
-    omega (arith, none (leb t i) (leb y j) (eqb l c), along-across (leb f i) (leb y j) (eqb l c), upright-froms es c i j)
+    omega (arith, none (leb t i) (leb y j) (eqb l c), swapped (leb f i) (leb y j) (eqb l c), upright-froms es c i j)
 
 -- ---- cells
 

@@ -5,6 +5,7 @@ use mathlib.Core.Bool.{Bool, true, false, _&&_, not}
 use mathlib.Core.List.{List, [], _∷_, map}
 use Prim.Native.Nat.{ℕ, zero, suc, _+_, _<_, _≤_}
 use native.Mathlib.Omega.{arith}
+use native.Mathlib.Nat.{zero-add, add-zero}
 use native.Mathlib.Decide.{decLt}
 use lib.Dec.{leb, ltb, eqb, leb·suc-suc}
 use lib.ListN.{length, getD, length-map}
@@ -16,6 +17,7 @@ use Rattle.grid.specs.Places.{has, Rising}
 use Rattle.grid.specs.Corners.{toCol, fromCol, closed-columns}
 use Rattle.basics.specs.Sums.{sumOf, sum-map}
 use Rattle.basics.specs.Lists.{All}
+use Rattle.basics.specs.Tests.{pick-and}
 use Rattle.sums.specs.Laws.{prefix-sum}
 use Rattle.sums.specs.Members.{perm-length}
 use Rattle.ranks.specs.Ranks.{rank, rank-in, rank-leb}
@@ -102,25 +104,13 @@ even-level maj [] l p = refl
 even-level maj (edge c y f t ∷ es) l p = omega (arith, pair-even (ltb (rank maj y) p) (eqb c l), even-level maj es l p)
 
 -- kind 1: by the columns of a closed list
-to-side : (a b c : Bool) → pick a (bit (c && eqb 0 1)) 0 + pick b (bit (c && eqb 1 1)) 0 ≡ bit (b && c)
-to-side true true true = refl
-to-side true true false = refl
-to-side true false true = refl
-to-side true false false = refl
-to-side false true true = refl
-to-side false true false = refl
-to-side false false true = refl
-to-side false false false = refl
+to-side : (a b c : Bool) → pick a (bit (c && eqb 0 1)) 0 + pick b (bit (c && eqb 1 1)) 0 ≡ bit (c && b)
+to-side a b true = ap₂ _+_ (pick-and a false) (pick-and b true) ∙ zero-add (bit b)
+to-side a b false = ap₂ _+_ (pick-and a false) (pick-and b false)
 
-from-side : (a b c : Bool) → pick a (bit (c && eqb 0 0)) 0 + pick b (bit (c && eqb 1 0)) 0 ≡ bit (a && c)
-from-side true true true = refl
-from-side true true false = refl
-from-side true false true = refl
-from-side true false false = refl
-from-side false true true = refl
-from-side false true false = refl
-from-side false false true = refl
-from-side false false false = refl
+from-side : (a b c : Bool) → pick a (bit (c && eqb 0 0)) 0 + pick b (bit (c && eqb 1 0)) 0 ≡ bit (c && a)
+from-side a b true = ap₂ _+_ (pick-and a true) (pick-and b false) ∙ add-zero (bit a)
+from-side a b false = ap₂ _+_ (pick-and a false) (pick-and b false)
 
 -- the test by rank is a test by column, or says the same of every corner
 data Same (T : ℕ → Bool) (xs : List ℕ) : Type 0 where
@@ -140,11 +130,11 @@ by-rank xs r (suc k) = go (decLt k (length xs))
 module _ (T : ℕ → Bool) (l : ℕ) where
   sideTo : List (Edge ℕ) → ℕ
   sideTo [] = 0
-  sideTo (edge c y f t ∷ es) = bit (T t && eqb c l) + sideTo es
+  sideTo (edge c y f t ∷ es) = bit (eqb c l && T t) + sideTo es
 
   sideFrom : List (Edge ℕ) → ℕ
   sideFrom [] = 0
-  sideFrom (edge c y f t ∷ es) = bit (T f && eqb c l) + sideFrom es
+  sideFrom (edge c y f t ∷ es) = bit (eqb c l && T f) + sideFrom es
 
 upright-to : (maj : List ℕ) (es : List (Edge ℕ)) (l p : ℕ) → beforePlace maj (cornersOf 1 es) 1 l p ≡ sideTo (λ v. ltb (rank maj v) p) l es
 unfolding beforePlace cornersOf sumOf sideTo
@@ -164,12 +154,12 @@ ends-in xs (edge c y f t ∷ es) = (has f xs ≡ true) × (has t xs ≡ true) ×
 side-to-same : (T U : ℕ → Bool) (l : ℕ) (xs : List ℕ) (es : List (Edge ℕ)) → ends-in xs es → ((v : ℕ) → has v xs ≡ true → T v ≡ U v) → sideTo T l es ≡ sideTo U l es
 unfolding sideTo ends-in
 side-to-same T U l xs [] h e = refl
-side-to-same T U l xs (edge c y f t ∷ es) h e = ap₂ (λ (b : Bool) (n : ℕ). bit (b && eqb c l) + n) (e t (h .1)) (side-to-same T U l xs es (h .2) e)
+side-to-same T U l xs (edge c y f t ∷ es) h e = ap₂ (λ (b : Bool) (n : ℕ). bit (eqb c l && b) + n) (e t (h .1)) (side-to-same T U l xs es (h .2) e)
 
 side-from-same : (T U : ℕ → Bool) (l : ℕ) (xs : List ℕ) (es : List (Edge ℕ)) → ends-in xs es → ((v : ℕ) → has v xs ≡ true → T v ≡ U v) → sideFrom T l es ≡ sideFrom U l es
 unfolding sideFrom ends-in
 side-from-same T U l xs [] h e = refl
-side-from-same T U l xs (edge c y f t ∷ es) h e = ap₂ (λ (b : Bool) (n : ℕ). bit (b && eqb c l) + n) (e f (h .0)) (side-from-same T U l xs es (h .2) e)
+side-from-same T U l xs (edge c y f t ∷ es) h e = ap₂ (λ (b : Bool) (n : ℕ). bit (eqb c l && b) + n) (e f (h .0)) (side-from-same T U l xs es (h .2) e)
 
 side-const : (b : Bool) (l : ℕ) (es : List (Edge ℕ)) → sideTo (λ v. b) l es ≡ sideFrom (λ v. b) l es
 unfolding sideTo sideFrom

@@ -16,21 +16,22 @@ use lib.ListN.{length, getD, take}
 use lib.Seq.{take-suc}
 use Rattle.meaning.specs.Numbers.{bit}
 use Rattle.meaning.specs.Expression.{often, Deep}
+use Rattle.meaning.specs.Edges.{number}
+use Rattle.basics.specs.Lists.{number-append}
 
 pub often-append : (b : ℕ) (s t : List ℕ) → often b (s ++ t) ≡ often b s + often b t
 unfolding often
-often-append b [] t = omega arith
-often-append b (x ∷ s) t = let h = often-append b s t in omega arith
+often-append b s t = number-append (λ x. eqb x b) s t
 
 pub often-more : (b : ℕ) (s : List ℕ) (i : ℕ) → i < length s → often b (take (i + 1) s) ≡ often b (take i s) + bit (eqb (getD s i 0) b)
-unfolding often
+unfolding often number
 often-more b s i h = rw (add-one, take-suc s i 0) (let k = often-append b (take i s) (getD s i 0 ∷ []) in omega arith)
 
 abbrev pub Shallow : List ℕ → ℕ → Type 0
 Shallow s i = (k : ℕ) → k ≤ i → often (code "(") (take k s) ≤ often (code ")") (take k s) + 16
 
 pub shallow-none : (s : List ℕ) → Shallow s 0
-unfolding often
+unfolding often number
 shallow-none s zero l = omega arith
 shallow-none s (suc k) l = absurd (omega arith)
 

@@ -21,6 +21,7 @@ use borrow.Author.Tests.{eqb-true, eqb-false, ltb-true, ltb-false}
 use Rattle.meaning.specs.Numbers.{bit, pick}
 use Rattle.meaning.specs.Answers.{Answer, accepted, expression-length, too-deep, not-in-grammar, holds-on-nothing}
 use Rattle.meaning.specs.Expression.{Expr, Handed, nothing, eval, InGrammar, Means, often, Deep, refusals, Judged}
+use Rattle.meaning.specs.Edges.{number}
 use Rattle.basics.specs.Tables.{single-given, not-given, one-answer}
 use Rattle.expression_laws.specs.Reader.{Read, got, refused, a-sum, reads}
 use Rattle.expression_laws.specs.Meanings.{read-whole, cut-short, not-read, one-value, not-outside, means-at}
@@ -77,7 +78,7 @@ DeepAfter : List ℕ → ℕ → ℕ → Type 0
 DeepAfter s o c = (k : ℕ) × (k ≤ length s) × (c + often (code ")") (take k s) + 16 < o + often (code "(") (take k s))
 
 deepAfter-right : (s : List ℕ) (o c : ℕ) (b : Bool) → deepAfter s o c ≡ b → (b ≡ true → DeepAfter s o c) × (b ≡ false → DeepAfter s o c → ⊥)
-unfolding deepAfter DeepAfter often
+unfolding deepAfter DeepAfter often number
 deepAfter-right [] o c b e =
     ((λ t. (0, omega arith, let h = ltb-true (c + 16) o (e ∙ t) in omega arith)), (λ t d. go (d .0) (d .2) (ltb-false (c + 16) o (e ∙ t))))
   where

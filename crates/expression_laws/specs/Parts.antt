@@ -20,6 +20,7 @@ use borrow.Author.Tests.{ne-eqb}
 use Rattle.meaning.specs.Numbers.{bit, pick}
 use Rattle.meaning.specs.Answers.{accepted}
 use Rattle.meaning.specs.Expression.{Operator, and, or, joins, Expr, joined, Handed, nothing, with-layer, eval, Level, sum, Is, a-letter, not-before, in-parentheses, one-factor, times, minus, one-product, plus, caret, Means, often, Deep, Judged}
+use Rattle.meaning.specs.Edges.{number}
 use Rattle.expression_laws.specs.Meanings.{one-value, means-same}
 use Rattle.expression_laws.specs.Depth.{often-append}
 use Rattle.expression_laws.specs.Judging.{accepted-says, says-so}
@@ -53,14 +54,14 @@ module _ (h : Handed) (x : ℕ) (below : x ≤ 7) (pre part post : List ℕ) (w 
 
 both-balanced : (b : ℕ) (t u : List ℕ) → eqb b (code "(") ≡ false → eqb b (code ")") ≡ false → often (code "(") t ≡ often (code ")") t
     → often (code "(") u ≡ often (code ")") u → often (code "(") (t ++ (b ∷ u)) ≡ often (code ")") (t ++ (b ∷ u))
-unfolding often
+unfolding often number
 both-balanced b t u x y p q =
     let m : bit (eqb b (code "(")) ≡ 0 = rw x in
     let n : bit (eqb b (code ")")) ≡ 0 = rw y in
     omega (arith, often-append (code "(") t (b ∷ u), often-append (code ")") t (b ∷ u))
 
 balanced : {l : Level} {t : List ℕ} {e : Expr} → Is l t e → often (code "(") t ≡ often (code ")") t
-unfolding often
+unfolding often number
 balanced (a-letter {l} k) = simp (ne-eqb (code "a" + l) (code "(") (λ e. omega arith), ne-eqb (code "a" + l) (code ")") (λ e. omega arith))
 balanced (not-before is) = let k = balanced is in omega arith
 balanced (in-parentheses {t} is) = let k = balanced is in omega (arith, often-append (code "(") t (code ")" ∷ []), often-append (code ")") t (code ")" ∷ []))
@@ -91,7 +92,7 @@ module _ (x : ℕ) (below : x ≤ 7) (pre part post : List ℕ) (even : often (c
   same-depth : (j : ℕ)
       → often (code "(") (pre ++ ((code "a" + x) ∷ take j post)) + often (code ")") (pre ++ (code "(" ∷ (part ++ (code ")" ∷ take j post))))
       ≡ often (code ")") (pre ++ ((code "a" + x) ∷ take j post)) + often (code "(") (pre ++ (code "(" ∷ (part ++ (code ")" ∷ take j post))))
-  unfolding often
+  unfolding often number
   same-depth j =
       let o : bit (eqb (code "a" + x) (code "(")) ≡ 0 = simp (ne-eqb (code "a" + x) (code "(") (λ e. omega arith)) in
       let c : bit (eqb (code "a" + x) (code ")")) ≡ 0 = simp (ne-eqb (code "a" + x) (code ")") (λ e. omega arith)) in

@@ -15,6 +15,7 @@ use lib.ListN.{length, drop}
 use lib.Seq.{drop-append-seam}
 use borrow.Author.Tests.{eq-eqb, ne-eqb}
 use Rattle.meaning.specs.Expression.{Operator, and, and-not, or, exclusive-or, Expr, letter, negated, joined, Handed, with-layer, eval, Level, factor, product, sum, Is, a-letter, not-before, in-parentheses, one-factor, times, minus, one-product, plus, caret, often}
+use Rattle.meaning.specs.Edges.{number}
 use Rattle.expression_laws.specs.Complete.{closed}
 use Rattle.expression_laws.specs.Meanings.{joined-same}
 use Rattle.expression_laws.specs.Depth.{often-append}
@@ -63,16 +64,16 @@ one-end t r e is u q f js d =
 
 module _ (x : ℕ) (t : List ℕ) (o : ℕ) (u : List ℕ) (h : Unused x (t ++ (o ∷ u))) where
   left-unused : Unused x t
-  unfolding often
+  unfolding often number
   left-unused = let k = often-append (code "a" + x) t (o ∷ u) in omega arith
 
   right-unused : Unused x u
-  unfolding often
+  unfolding often number
   right-unused = let k = often-append (code "a" + x) t (o ∷ u) in omega arith
 
 module _ (h : Handed) (x : ℕ) where
   other : (l : ℕ) (v : Bool) → Unused x ((code "a" + l) ∷ []) → h l ≡ with-layer h x v l
-  unfolding often
+  unfolding often number
   other l v n = go (ℕ-discrete l x)
     where
       go : Dec (l ≡ x) → h l ≡ with-layer h x v l
@@ -80,7 +81,7 @@ module _ (h : Handed) (x : ℕ) where
       go (no f) = simp (ne-eqb l x f)
 
   unused-same : {l : Level} {t : List ℕ} {e : Expr} → Is l t e → (v : Bool) → Unused x t → eval h e ≡ eval (with-layer h x v) e
-  unfolding eval often
+  unfolding eval often number
   unused-same (a-letter {l} k) v n = other l v n
   unused-same (not-before is) v n = ap not (unused-same is v (omega arith))
   unused-same (in-parentheses {t} is) v n = unused-same is v (let k = often-append (code "a" + x) t (code ")" ∷ []) in omega arith)
@@ -203,7 +204,7 @@ module _ (h : Handed) (x : ℕ) where
     parentheses-hole t e is ih (y ∷ pre) rest q = inner-hole t e ih y pre rest (cc) (split pre (code "(") rest t (code ")") [] (cc))
 
     pub hole : {l : Level} {t : List ℕ} {e : Expr} → Is l t e → Unused x t → (pre rest : List ℕ) → t ≡ pre ++ (code "(" ∷ rest) → Hole l pre rest e
-    unfolding often
+    unfolding often number
     hole (a-letter {l} k) free pre rest q = letter-hole l pre rest q
     hole (not-before {t} {e} is) free pre rest q = not-hole t e (λ a b k. hole is (omega arith) a b k) pre rest q
     hole (in-parentheses {t} {e} is) free pre rest q =

@@ -2,7 +2,7 @@
 use mathlib.Core.Path.{_≡_, refl, sym, ap, ap₂, _∙_, fun-ext}
 use mathlib.Core.Bool.{Bool, true, false, _&&_, _||_}
 use mathlib.Core.Logic.{_≢_}
-use mathlib.Core.List.{List, [], _∷_, map}
+use mathlib.Core.List.{List, map}
 use Prim.Native.Nat.{ℕ, suc, _+_, _-_, _*_, _≤_, _<_}
 use native.Mathlib.Omega.{arith}
 use native.Mathlib.Decide.{decLt}
@@ -16,7 +16,7 @@ use Rattle.meaning.specs.Edges.{Edge, edge, number}
 use Rattle.meaning.specs.Area.{total}
 use Rattle.basics.specs.Tests.{spans-parts, spans-empty, spans, spans-in, spans-below, spans-above}
 use Rattle.grid.specs.Plane.{goesWest, goesEast, upToN, westsN, eastsN, levelN, recordAt, kindN}
-use Rattle.basics.specs.Sums.{sumOf, sum-map}
+use Rattle.basics.specs.Sums.{sumOf, sum-map, number-sum}
 use Rattle.basics.specs.Fours.{yOf}
 use Rattle.grid.specs.Sums.{total-same, total-zero, total-add, total-split, total-one}
 use Rattle.grid.specs.AreaLaws.{cellsN, Additive, sum-kind, east, west, stepN, climb}
@@ -46,11 +46,6 @@ asEdge c (rec kind y f t) = edge c y f t
 
 unfoldable pub asLayer : ℕ → List (Record ℕ) → List (Edge ℕ)
 asLayer c rs = map (asEdge c) rs
-
-number-sum : (P : Edge ℕ → Bool) (es : List (Edge ℕ)) → number P es ≡ sumOf (λ e. bit (P e)) es
-unfolding number sumOf
-number-sum P [] = refl
-number-sum P (e ∷ es) = ap (_+_ (bit (P e))) (number-sum P es)
 
 -- what one run adds to a number: t says the layer, u the height
 factor : (t p u : Bool) → bit ((t && p) && u) ≡ bit p * bit (t && u)

@@ -1,7 +1,7 @@
 -- Corners: every edge is a corner at its `to` and one at its `from`, and a layer's number at a cell is the number of its
 -- to-corners up to the cell less the number of its from-corners.
 use mathlib.Core.Path.{_≡_, refl}
-use mathlib.Core.Bool.{Bool, true, false, _&&_, not}
+use mathlib.Core.Bool.{Bool, _&&_}
 use mathlib.Core.List.{List, [], _∷_}
 use Prim.Native.Nat.{ℕ, _+_}
 use native.Mathlib.Omega.{arith}
@@ -9,16 +9,16 @@ use lib.Dec.{leb, eqb}
 use Rattle.meaning.specs.Numbers.{bit}
 use lib.IntN.{pos, _-ℤ_}
 use Rattle.meaning.specs.Edges.{Edge, edge, number, covers}
-use Rattle.basics.specs.Tests.{not-leb, spans}
+use Rattle.basics.specs.Tests.{not-leb, spans, one-column, one-corner}
 use Rattle.grid.specs.Plane.{ClosedN, goesWest, goesEast, upToN, westsN, eastsN, coversN}
 use Rattle.grid.specs.Covering.{covers-same}
 
 -- the edge's end (its `to`; its `from`) is at or left of column i, its layer is c and its y at most j
 unfoldable pub toBy : ℕ → ℕ → ℕ → Edge ℕ → Bool
-toBy c i j (edge l y f t) = leb t i && (leb y j && eqb l c)
+toBy c i j (edge l y f t) = (eqb l c && leb t i) && leb y j
 
 unfoldable pub fromBy : ℕ → ℕ → ℕ → Edge ℕ → Bool
-fromBy c i j (edge l y f t) = leb f i && (leb y j && eqb l c)
+fromBy c i j (edge l y f t) = (eqb l c && leb f i) && leb y j
 
 unfoldable pub tos : List (Edge ℕ) → ℕ → ℕ → ℕ → ℕ
 tos es c i j = number (toBy c i j) es
@@ -26,31 +26,10 @@ tos es c i j = number (toBy c i j) es
 unfoldable pub froms : List (Edge ℕ) → ℕ → ℕ → ℕ → ℕ
 froms es c i j = number (fromBy c i j) es
 
--- what one edge adds, from the tests of its ends (a: from, b: to), its y and its layer
-abbrev sideOf : Bool → Bool → Bool → Bool → Bool
-sideOf p q a b = (p && (b && not a)) && q
-
-table : (p q a b : Bool) → bit (sideOf p q a b) + bit (a && (q && p)) ≡ bit (sideOf p q b a) + bit (b && (q && p))
-table true true true true = refl
-table true true true false = refl
-table true true false true = refl
-table true true false false = refl
-table true false true true = refl
-table true false true false = refl
-table true false false true = refl
-table true false false false = refl
-table false true true true = refl
-table false true true false = refl
-table false true false true = refl
-table false true false false = refl
-table false false true true = refl
-table false false true false = refl
-table false false false true = refl
-table false false false false = refl
-
-one-edge : (p q : Bool) (f t i : ℕ) → bit ((p && spans t f i) && q) + bit (leb f i && (q && p)) ≡ bit ((p && spans f t i) && q) + bit (leb t i && (q && p))
+-- what one edge adds
+one-edge : (p q : Bool) (f t i : ℕ) → bit ((p && spans t f i) && q) + bit ((p && leb f i) && q) ≡ bit ((p && spans f t i) && q) + bit ((p && leb t i) && q)
 unfolding spans
-one-edge p q f t i = rw (not-leb i f, not-leb i t) (table p q (leb f i) (leb t i))
+one-edge p q f t i = rw (not-leb i f, not-leb i t) (one-corner p q (leb f i) (leb t i))
 
 -- THE CORNER LAW
 pub corners : (es : List (Edge ℕ)) (c i j : ℕ) → westsN es c i j + froms es c i j ≡ eastsN es c i j + tos es c i j
@@ -66,24 +45,14 @@ covers-corners es i j c = covers-same (westsN es c i j) (eastsN es c i j) (tos e
 -- ---- columns
 
 unfoldable pub toCol : ℕ → ℕ → Edge ℕ → Bool
-toCol c i (edge l y f t) = leb t i && eqb l c
+toCol c i (edge l y f t) = eqb l c && leb t i
 
 unfoldable pub fromCol : ℕ → ℕ → Edge ℕ → Bool
-fromCol c i (edge l y f t) = leb f i && eqb l c
+fromCol c i (edge l y f t) = eqb l c && leb f i
 
-col-table : (p a b : Bool) → bit (p && (b && not a)) + bit (a && p) ≡ bit (p && (a && not b)) + bit (b && p)
-col-table true true true = refl
-col-table true true false = refl
-col-table true false true = refl
-col-table true false false = refl
-col-table false true true = refl
-col-table false true false = refl
-col-table false false true = refl
-col-table false false false = refl
-
-one-col : (p : Bool) (f t i : ℕ) → bit (p && spans t f i) + bit (leb f i && p) ≡ bit (p && spans f t i) + bit (leb t i && p)
+one-col : (p : Bool) (f t i : ℕ) → bit (p && spans t f i) + bit (p && leb f i) ≡ bit (p && spans f t i) + bit (p && leb t i)
 unfolding spans
-one-col p f t i = rw (not-leb i f, not-leb i t) (col-table p (leb f i) (leb t i))
+one-col p f t i = rw (not-leb i f, not-leb i t) (one-column p (leb f i) (leb t i))
 
 columns : (es : List (Edge ℕ)) (c i : ℕ) → number (goesWest c i) es + number (fromCol c i) es ≡ number (goesEast c i) es + number (toCol c i) es
 unfolding number goesWest goesEast toCol fromCol

@@ -4,7 +4,7 @@
 --   passed-over, passed-at   one key more, above row r or not; passed-none, passed-le
 --   points-rise, minor-rises, major-rises      keys that stand by place and row
 use mathlib.Core.Path.{_≡_, refl, ap, _∙_}
-use mathlib.Core.Bool.{Bool, true, false}
+use mathlib.Core.Bool.{_&&_}
 use mathlib.Core.List.{List}
 use Prim.Native.Nat.{ℕ, _+_, _/_, _<_, _≤_}
 use native.Mathlib.Omega.{arith}
@@ -13,8 +13,9 @@ use lib.Dec.{leb}
 use lib.ListN.{length, getD, take}
 use lib.Seq.{length-take-le}
 use borrow.Author.Tests.{le-leb, lt-leb}
-use Rattle.meaning.specs.Numbers.{bit, pick}
+use Rattle.meaning.specs.Numbers.{bit}
 use Rattle.basics.specs.Sums.{sumOf}
+use Rattle.basics.specs.Tests.{pick-and, bit-le}
 use Rattle.sums.specs.Laws.{sum-take, sum-le}
 use Rattle.keys.specs.Key.{keyOf, majorOf, minorOf, layerOf, wayOf, marked, hit, passed, ByPoint}
 
@@ -72,12 +73,7 @@ passed-none ks w l r = refl
 
 hit-le : (w l r k : ℕ) → hit w l r k ≤ 1
 unfolding hit
-hit-le w l r k = go (leb (minorOf k) r) (marked w l k)
-  where
-    go : (a b : Bool) → pick a (bit b) 0 ≤ 1
-    go true true = omega arith
-    go true false = omega arith
-    go false b = omega arith
+hit-le w l r k = omega (arith, pick-and (leb (minorOf k) r) (marked w l k), bit-le (marked w l k && leb (minorOf k) r))
 
 pub passed-le : (ks : List ℕ) (w l r e : ℕ) → e ≤ length ks → passed ks w l r e ≤ e
 unfolding passed

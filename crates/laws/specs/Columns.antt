@@ -4,39 +4,23 @@
 --   corners                 CORNERS: a layer's count at (i, j) is the number of its to-corners up to i and j, less that of its from-corners
 --   columns                 the same of whole columns
 --   closed-up-to, up-to-closed   CLOSED: a list is closed exactly when each layer has as many to- as from-corners up to each column
-use mathlib.Core.Path.{_≡_, refl, sym, ap, _∙_}
-use mathlib.Core.Bool.{Bool, true, false, not, _&&_}
+use mathlib.Core.Path.{_≡_, refl, _∙_}
+use mathlib.Core.Bool.{Bool, _&&_}
 use mathlib.Core.List.{List, [], _∷_}
-use Prim.Native.Nat.{ℕ, zero, suc, _+_}
+use Prim.Native.Nat.{ℕ, _+_}
 use native.Mathlib.Omega.{arith}
-use lib.IntN.{ℤ, pos, negsuc}
+use lib.IntN.{ℤ}
 use lib.Signed.{leZ, ltZ}
 use Rattle.meaning.specs.Numbers.{bit}
 use Rattle.meaning.specs.Edges.{Edge, edge, west, east, on, upTo, number, wests, easts, Closed}
 use Rattle.basics.specs.Signed.{not-leZ}
+use Rattle.basics.specs.Tests.{one-column, one-corner}
 
 unfoldable pub toUpTo : ℤ → Edge ℤ → Bool
 toUpTo i (edge l y f t) = leZ t i
 
 unfoldable pub fromUpTo : ℤ → Edge ℤ → Bool
 fromUpTo i (edge l y f t) = leZ f i
-
--- the tests of one edge: p its layer, a and b its ends, q its height
-one-column : (p a b : Bool) → bit (p && (b && not a)) + bit (p && a) ≡ bit (p && (a && not b)) + bit (p && b)
-one-column false a b = refl
-one-column true true true = refl
-one-column true true false = refl
-one-column true false true = refl
-one-column true false false = refl
-
-one-corner : (p q a b : Bool) → bit ((p && (b && not a)) && q) + bit ((p && a) && q) ≡ bit ((p && (a && not b)) && q) + bit ((p && b) && q)
-one-corner false q a b = refl
-one-corner true q true true = refl
-one-corner true q false false = refl
-one-corner true true true false = refl
-one-corner true true false true = refl
-one-corner true false true false = refl
-one-corner true false false true = refl
 
 pub corners : (es : List (Edge ℤ)) (c : ℕ) (i j : ℤ)
     → wests es c i j + number (λ e. (on c e && fromUpTo i e) && upTo j e) es ≡ easts es c i j + number (λ e. (on c e && toUpTo i e) && upTo j e) es

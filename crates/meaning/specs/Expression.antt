@@ -27,8 +27,9 @@ use Prim.Native.Char.{code}
 use Prim.Native.String.{String}
 use lib.Dec.{eqb}
 use lib.ListN.{length, take}
-use Rattle.meaning.specs.Numbers.{bit, pick}
+use Rattle.meaning.specs.Numbers.{pick}
 use Rattle.meaning.specs.Answers.{Answer, accepted, Row, given, First, expression-length, too-deep, not-in-grammar, holds-on-nothing}
+use Rattle.meaning.specs.Edges.{number}
 
 unfoldable pub bytes : String → List ℕ
 bytes String.[] = []
@@ -106,8 +107,7 @@ pub record Depends (s : List ℕ) (l : ℕ) : Type 0 where
 -- ---- the refusals
 
 unfoldable pub often : ℕ → List ℕ → ℕ
-often b [] = 0
-often b (x ∷ xs) = bit (eqb x b) + often b xs
+often b s = number (λ x. eqb x b) s
 
 -- "some beginning of it has over 16 more `(` than `)`"
 unfoldable pub Deep : List ℕ → Type 0

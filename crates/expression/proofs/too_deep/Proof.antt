@@ -7,6 +7,7 @@ use native.Mathlib.Omega.{arith}
 use lib.ListN.{length, take}
 use borrow.Author.Needs.{needs}
 use Rattle.meaning.specs.Expression.{often, Deep}
+use Rattle.meaning.specs.Edges.{number}
 use Rattle.expression_laws.specs.Depth.{Shallow, shallow-none, shallow-more, not-deep, often-more}
 use Rattle.expression.proofs.too_deep.Statement.{statement}
 use Rattle.expression.proofs.too_deep.Tie as tie
@@ -19,7 +20,7 @@ abbrev μ-loop : tie.MeasureT-loop
 μ-loop text opens₀ closes₀ i₀ opens closes i = length text - i
 
 loop-holds : tie.Need-loop-holds Inv-loop μ-loop
-unfolding often
+unfolding often number
 loop-holds c = (search needs, refl, refl, search needs, search needs, shallow-none _)
 
 shared-slice-read-b : tie.Need-shared-slice-read-b Inv-loop μ-loop
