@@ -10,12 +10,12 @@ use native.Mathlib.Omega.{arith}
 use native.Mathlib.Decide.{ℕ-discrete}
 use lib.Dec.{eqb}
 use lib.ListN.{getD}
-use borrow.Author.Tests.{eq-eqb, ne-eqb}
+use borrow.Author.Tests.{ne-eqb}
 use Rattle.meaning.specs.Numbers.{pick}
 use Rattle.meaning.specs.Expression.{Handed, with-layer}
 use Rattle.basics.specs.Bits.{bitAt, ofBits, ofBits-below, ofBits-step, bitAt-ofBits}
 use Rattle.expression_laws.specs.Cover.{coverOf, byteOf, Changes, Letters}
-use Rattle.expression_laws.specs.Covers.{byteOf-below, byte-cover, byte-same}
+use Rattle.expression_laws.specs.Covers.{byteOf-below, byte-cover, byte-same, more-byte}
 use Rattle.covers.specs.Changing.{changesAt, someBelow, changesBy}
 
 -- ---- a search below n
@@ -59,14 +59,6 @@ differ-no false true e = absurd (true≢false e)
 differ-no false false e = refl
 
 module _ (truth : List Bool) (l : ℕ) (u : l < 8) where
-  -- the cover m, with the layer l
-  more-byte : (m : ℕ) → m < 256 → bitAt m l ≡ false → byteOf (with-layer (coverOf m) l true) ≡ m + 2 ^ l
-  more-byte m h e =
-      let s = ofBits-step 8 l (coverOf m) (with-layer (coverOf m) l true) u (λ k _ f. simp (ne-eqb k l f)) in
-      let a : pick (coverOf m l) (2 ^ l) 0 ≡ 0 = rw e in
-      let b : pick (with-layer (coverOf m) l true l) (2 ^ l) 0 ≡ 2 ^ l = simp (eq-eqb l l refl) in
-      omega (arith, byte-cover m h)
-
   at-yes : (m : ℕ) → m < 256 → changesAt truth (2 ^ l) m ≡ true → Changes truth l
   unfolding changesAt bitAt
   at-yes m h e = go (eqb (m / 2 ^ l % 2) 1) refl e
@@ -79,7 +71,7 @@ module _ (truth : List Bool) (l : ℕ) (u : l < 8) where
             one = coverOf m;
             other = with-layer (coverOf m) l true;
             alike = λ k f. simp (ne-eqb k l f);
-            differ = rw (byte-cover m h, more-byte m h q) (differ-yes (getD truth m false) (getD truth (m + 2 ^ l) false) e);
+            differ = rw (byte-cover m h, more-byte m l h u q) (differ-yes (getD truth m false) (getD truth (m + 2 ^ l) false) e);
           }
 
   at-no : (m : ℕ) → bitAt m l ≡ false → changesAt truth (2 ^ l) m ≡ false → getD truth m false ≡ getD truth (m + 2 ^ l) false

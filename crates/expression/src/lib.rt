@@ -2,11 +2,12 @@
 use readers::Piece;
 ghost use mathlib.Core.Path.{_≡_};
 ghost use mathlib.Core.Bool.{true, false};
-ghost use Prim.Native.Nat.{_≤_};
+ghost use Prim.Native.Nat.{_+_, _^_, _≤_, _<_};
 ghost use lib.Dec.{eqb};
 ghost use Rattle.meaning.specs.Numbers.{bit};
-ghost use Rattle.meaning.specs.Expression.{Deep, Judged};
+ghost use Rattle.meaning.specs.Expression.{often, Deep, Judged};
 ghost use Rattle.expression_laws.specs.Cover.{coverOf, Entry, Table};
+ghost use Rattle.expression_laws.specs.Doubling.{Filled};
 ghost use Rattle.expression.specs.Verdicts.{answerOf};
 
 // The most bytes of an expression.
@@ -97,16 +98,61 @@ fn value(text: &[u8], handed: readers::Handed) -> bool
     v
 }
 
-// The values at all 256 covers; all false where the text is not in the grammar.
+// Does the byte b stand in the text?
+fn stands(text: &[u8], b: u8) -> bool
+    ensures { λ r. ⌜ (r ≡ true → often b (now (text .entry)) ≡ 0 → ⊥) × (r ≡ false → often b (now (text .entry)) ≡ 0) ⌝ }
+{
+    let mut i = 0;
+    while i < text.len() {
+        if text[i] == b {
+            return true;
+        }
+        i += 1;
+    }
+    false
+}
+
+// The entry at the cover handed: read, or the one that is known.
+fn entry(text: &[u8], handed: readers::Handed, read: bool, known: bool) -> bool
+    requires { ⌜ (read ≡ false → Entry (now text) (coverOf handed) known) ⌝ }
+    ensures { λ r. ⌜ Entry (now (text .entry)) (coverOf handed) r ⌝ }
+{
+    if read {
+        return value(text, handed);
+    }
+    known
+}
+
+// One layer more, which counts half: the covers below half have their entries, and those with the layer get theirs. Where its letter does
+// not stand in the text, an entry with the layer is the one without it, and nothing is read.
+fn add_layer(text: &[u8], truth: &mut [bool; 256], layer: u8, half: usize)
+    requires { ⌜ (layer < 8) × (half ≡ 2 ^ layer) × Filled (now text) half (now truth) ⌝ }
+    ensures { λ _. ⌜ Filled (now (text .entry)) (half + half) (now (truth .exit)) ⌝ }
+{
+    let read = stands(text, b'a' + layer);
+    let mut m = half;
+    while m < half + half {
+        let known = truth[m - half];
+        let v = entry(text, m as u8, read, known);
+        truth[m] = v;
+        m += 1;
+    }
+}
+
+// The values at all 256 covers; all false where the text is not in the grammar. With k different letters of a to h in it the text is read
+// 2^k times; an accepted text has at most 64 bytes.
 pub fn table(text: &[u8]) -> [bool; 256]
     ensures { λ r. ⌜ Table (now (text .entry)) r ⌝ }
 {
     let mut truth = [false; 256];
-    let mut m: usize = 0;
-    while m < 256 {
-        let v = value(text, m as u8);
-        truth[m] = v;
-        m += 1;
+    let v = value(text, 0);
+    truth[0] = v;
+    let mut half: usize = 1;
+    let mut layer: u8 = 0;
+    while layer < 8 {
+        add_layer(text, &mut truth, layer, half);
+        half += half;
+        layer += 1;
     }
     truth
 }

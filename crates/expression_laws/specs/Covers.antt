@@ -5,6 +5,8 @@
 --   byte-cover           a byte is the byte of its cover
 --   one-byte             bytes of one cover are equal
 --   one-cover            so every cover is, as far as the eight layers go, that of exactly one byte
+--   no-layer             a byte below 2^l says that the layer l does not cover
+--   more-byte            the byte of a cover with one layer more
 --   no-cover             the byte 0 says that nothing covers
 --   one-table            tables of one text are equal
 --   looked-up            the table tells the value at every cover
@@ -19,17 +21,18 @@ use mathlib.Core.Path.{_≡_, refl, sym, ap, _∙_}
 use mathlib.Core.Logic.{_⊎_, inl, inr}
 use mathlib.Core.Bool.{Bool, true, false, true≢false, false≢true}
 use mathlib.Core.List.{List}
-use Prim.Native.Nat.{ℕ, zero, suc, _≤_, _<_}
-use native.Mathlib.Nat.{zero-div}
+use Prim.Native.Nat.{ℕ, zero, suc, _+_, _/_, _^_, _≤_, _<_}
+use native.Mathlib.Nat.{div-eq-of-lt}
 use native.Mathlib.Omega.{arith}
 use native.Mathlib.Decide.{decLt}
 use lib.Dec.{ltb}
 use lib.ListN.{getD}
+use lib.Pow.{pow-pos}
 use lib.Seq.{ext-getD}
-use borrow.Author.Tests.{lt-ltb, le-ltb}
+use borrow.Author.Tests.{lt-ltb, le-ltb, eq-eqb, ne-eqb}
 use Rattle.meaning.specs.Numbers.{pick}
-use Rattle.meaning.specs.Expression.{Handed, nothing, eval, InGrammar, Means, Depends}
-use Rattle.basics.specs.Bits.{bitAt, ofBits-below, ofBits-same, bitAt-ofBits, ofBits-bitAt}
+use Rattle.meaning.specs.Expression.{Handed, nothing, with-layer, eval, InGrammar, Means, Depends}
+use Rattle.basics.specs.Bits.{bitAt, ofBits-below, ofBits-same, ofBits-step, bitAt-ofBits, ofBits-bitAt}
 use Rattle.basics.specs.Tests.{not-self, is-other}
 use Rattle.expression_laws.specs.Cover.{coverOf, byteOf, Entry, Table, Changes, Letters}
 use Rattle.expression_laws.specs.Meanings.{one-value, decided, means-at, means-same}
@@ -54,12 +57,19 @@ one-byte m n a b e = sym (byte-cover m a) ∙ byte-same (coverOf m) (coverOf n) 
 pub one-cover : (h : Handed) → (m : ℕ) × (m < 256) × ((l : ℕ) → l < 8 → coverOf m l ≡ h l) × ((n : ℕ) → n < 256 → ((l : ℕ) → l < 8 → coverOf n l ≡ h l) → n ≡ m)
 one-cover h = (byteOf h, byteOf-below h, cover-byte h, λ n u e. one-byte n (byteOf h) u (byteOf-below h) (λ l k. e l k ∙ sym (cover-byte h l k)))
 
-zero-bit : (l : ℕ) → coverOf 0 l ≡ false
+pub no-layer : (m l : ℕ) → m < 2 ^ l → coverOf m l ≡ false
 unfolding bitAt
-zero-bit l = simp zero-div
+no-layer m l h = let e : m / 2 ^ l ≡ 0 = div-eq-of-lt h in rw e
+
+pub more-byte : (m l : ℕ) → m < 256 → l < 8 → coverOf m l ≡ false → byteOf (with-layer (coverOf m) l true) ≡ m + 2 ^ l
+more-byte m l h u e =
+    let s = ofBits-step 8 l (coverOf m) (with-layer (coverOf m) l true) u (λ k _ f. simp (ne-eqb k l f)) in
+    let a : pick (coverOf m l) (2 ^ l) 0 ≡ 0 = rw e in
+    let b : pick (with-layer (coverOf m) l true l) (2 ^ l) 0 ≡ 2 ^ l = simp (eq-eqb l l refl) in
+    omega (arith, byte-cover m h)
 
 pub no-cover : {s : List ℕ} {v : Bool} → Means s (coverOf 0) v → Means s nothing v
-no-cover m = means-same (coverOf 0) nothing (λ l _. zero-bit l) m
+no-cover m = means-same (coverOf 0) nothing (λ l _. no-layer 0 l (pow-pos l)) m
 
 -- ---- the table
 

@@ -2,8 +2,10 @@
 --
 --   often-append    in two texts one after the other
 --   often-more      in a beginning that is one byte longer
+--   often-passed    a beginning that has not the byte, and one byte more that is another
+--   often-found     a text that has the byte at a place has it
 --   Shallow s i     no beginning of up to i bytes is too deep
-use mathlib.Core.Path.{_≡_}
+use mathlib.Core.Path.{_≡_, ap}
 use mathlib.Core.Logic.{⊎-elim}
 use mathlib.Core.List.{List, [], _∷_, _++_}
 use Prim.Native.Nat.{ℕ, zero, suc, _+_, _≤_, _<_}
@@ -12,8 +14,9 @@ use native.Mathlib.Nat.{eq-or-lt-of-le}
 use native.Mathlib.Numerals.{add-one}
 use native.Mathlib.Omega.{arith}
 use lib.Dec.{eqb}
-use lib.ListN.{length, getD, take}
+use lib.ListN.{length, getD, take, drop, take-append-drop}
 use lib.Seq.{take-suc}
+use borrow.Author.Tests.{eq-eqb, ne-eqb}
 use Rattle.meaning.specs.Numbers.{bit}
 use Rattle.meaning.specs.Expression.{often, Deep}
 use Rattle.meaning.specs.Edges.{number}
@@ -26,6 +29,15 @@ often-append b s t = number-append (λ x. eqb x b) s t
 pub often-more : (b : ℕ) (s : List ℕ) (i : ℕ) → i < length s → often b (take (i + 1) s) ≡ often b (take i s) + bit (eqb (getD s i 0) b)
 unfolding often number
 often-more b s i h = rw (add-one, take-suc s i 0) (let k = often-append b (take i s) (getD s i 0 ∷ []) in omega arith)
+
+pub often-passed : (b : ℕ) (s : List ℕ) (i : ℕ) → i < length s → often b (take i s) ≡ 0 → (getD s i 0 ≡ b → ⊥) → often b (take (i + 1) s) ≡ 0
+often-passed b s i h n f = let e = ap bit (ne-eqb (getD s i 0) b f) in omega (arith, often-more b s i h)
+
+pub often-found : (b : ℕ) (s : List ℕ) (i : ℕ) → i < length s → getD s i 0 ≡ b → often b s ≡ 0 → ⊥
+often-found b s i h q n =
+    let e = ap bit (eq-eqb (getD s i 0) b q) in
+    let w = ap (often b) (take-append-drop (i + 1) s) in
+    omega (arith, often-more b s i h, often-append b (take (i + 1) s) (drop (i + 1) s))
 
 abbrev pub Shallow : List ℕ → ℕ → Type 0
 Shallow s i = (k : ℕ) → k ≤ i → often (code "(") (take k s) ≤ often (code ")") (take k s) + 16

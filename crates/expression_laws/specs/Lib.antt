@@ -10,4 +10,5 @@ pub mod Replace
 pub mod Parts
 pub mod Cover
 pub mod Covers
+pub mod Doubling
 pub mod Spots

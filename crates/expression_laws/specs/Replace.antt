@@ -1,6 +1,7 @@
 -- A part in parentheses replaced by a letter in a text of the grammar, and the other way. Assumes nothing.
 --
 --   Unused x s    the letter of the layer x stands nowhere in the text s
+--   unused-same   a letter that a text does not use has no part in its value
 --   one-end       a sum that a parenthesis closes ends at one place
 --   hole          a parenthesis that opens in a text of the grammar closes around a sum, and a letter that the text does not use may stand for the whole
 --   fill          a sum in parentheses may stand for a letter
@@ -80,7 +81,7 @@ module _ (h : Handed) (x : ℕ) where
       go (yes e) = let k = eq-eqb (code "a" + l) (code "a" + x) (omega arith) in let z : 1 + 0 ≡ 0 = simp k at n in absurd (omega arith)
       go (no f) = simp (ne-eqb l x f)
 
-  unused-same : {l : Level} {t : List ℕ} {e : Expr} → Is l t e → (v : Bool) → Unused x t → eval h e ≡ eval (with-layer h x v) e
+  pub unused-same : {l : Level} {t : List ℕ} {e : Expr} → Is l t e → (v : Bool) → Unused x t → eval h e ≡ eval (with-layer h x v) e
   unfolding eval often number
   unused-same (a-letter {l} k) v n = other l v n
   unused-same (not-before is) v n = ap not (unused-same is v (omega arith))

@@ -23,7 +23,7 @@ use Rattle.axis.specs.Axes.{Ranks}
 use Rattle.arrange.specs.Events.{eventOf, eventAt, Arranged}
 use Rattle.ordering.specs.Both.{Corners}
 use Rattle.basics.specs.Fours.{layerOf, yOf, fromOf, toOf}
-use Rattle.basics.specs.Lists.{At}
+use Rattle.basics.specs.Lists.{At, map-at}
 use Rattle.ranks.specs.Ranks.{rank, rank-is, rising-of, has-same}
 use Rattle.keys.specs.Key.{keyOf}
 use Rattle.corners.specs.Corner.{cornersOf, keyed, Keyed}
@@ -34,11 +34,6 @@ use Rattle.feeding.specs.Columned.{Ends, Sorted}
 
 abbrev none : Edge ℕ
 none = edge 0 0 0 0
-
-column-at : (f : Edge ℕ → ℕ) (es : List (Edge ℕ)) (j : ℕ) → j < length es → getD (map f es) j 0 ≡ f (getD es j none)
-column-at f [] j h = absurd (omega arith)
-column-at f (e ∷ es) zero h = refl
-column-at f (e ∷ es) (suc j) h = column-at f es j (omega arith)
 
 pub edges-ys : (es : List (Edge ℕ)) → ysOf es ≡ map yOf es
 unfolding ysOf
@@ -158,19 +153,19 @@ module _ (es : List (Edge ℕ)) (vx vy across up : List ℕ) (nx ny : ℕ) (S : 
     in-ys = omega (arith, length-map es yOf)
 
     y-rank : getD (C .ry) j 0 ≡ rank (take ny vy) (yOf e)
-    y-rank = rank-at Y j in-ys ∙ ap (rank (take ny vy)) (column-at yOf es j h)
+    y-rank = rank-at Y j in-ys ∙ ap (rank (take ny vy)) (map-at yOf es j none 0 h)
 
     from-rank : getD (C .rx) (j + j) 0 ≡ rank (take nx vx) (fromOf e)
-    from-rank = rank-at X (j + j) (omega (arith, xs-long)) ∙ ap (rank (take nx vx)) (S .ends .x-pairs j in-layers .0 ∙ column-at fromOf es j h)
+    from-rank = rank-at X (j + j) (omega (arith, xs-long)) ∙ ap (rank (take nx vx)) (S .ends .x-pairs j in-layers .0 ∙ map-at fromOf es j none 0 h)
 
     to-rank : getD (C .rx) (j + j + 1) 0 ≡ rank (take nx vx) (toOf e)
-    to-rank = rank-at X (j + j + 1) (omega (arith, xs-long)) ∙ ap (rank (take nx vx)) (S .ends .x-pairs j in-layers .1 ∙ column-at toOf es j h)
+    to-rank = rank-at X (j + j + 1) (omega (arith, xs-long)) ∙ ap (rank (take nx vx)) (S .ends .x-pairs j in-layers .1 ∙ map-at toOf es j none 0 h)
 
     from-tag : getD (S .tags) (j + j) 0 ≡ layerOf e * 2
-    from-tag = S .ends .tag-pairs j in-layers .0 ∙ ap (λ (n : ℕ). n * 2) (column-at layerOf es j h)
+    from-tag = S .ends .tag-pairs j in-layers .0 ∙ ap (λ (n : ℕ). n * 2) (map-at layerOf es j none 0 h)
 
     to-tag : getD (S .tags) (j + j + 1) 0 ≡ layerOf e * 2 + 1
-    to-tag = S .ends .tag-pairs j in-layers .1 ∙ ap (λ (n : ℕ). n * 2 + 1) (column-at layerOf es j h)
+    to-tag = S .ends .tag-pairs j in-layers .1 ∙ ap (λ (n : ℕ). n * 2 + 1) (map-at layerOf es j none 0 h)
 
     both-from : getD (C .both) (j + j) 0 ≡ rank (take ny vy) (yOf e)
     both-from = C .twice j in-ys .0 ∙ y-rank
