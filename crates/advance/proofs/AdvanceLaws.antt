@@ -3,7 +3,7 @@ use mathlib.Core.Path.{_≡_, refl, sym, ap, _∙_}
 use mathlib.Core.Logic.{_≢_}
 use mathlib.Core.Bool.{Bool, true, false, _&&_, not}
 use mathlib.Core.List.{List}
-use Prim.Native.Nat.{ℕ, _+_, _-_, _<_, _≤_}
+use Prim.Native.Nat.{ℕ, _+_, _*_, _-_, _<_, _≤_}
 use native.Mathlib.Omega.{arith}
 use native.Mathlib.Decide.{decLt, ℕ-discrete}
 use lib.Dec.{eqb}
@@ -15,7 +15,7 @@ use Rattle.scanline.specs.declared.Scanline.{Scanline}
 use Rattle.scanline.specs.Handed.{freshLine, past, Bounded}
 use Rattle.scanline.specs.HandedLaws.{west-at, east-at, west-long, east-long, fresh-zero}
 use Rattle.keys.specs.Key.{majorOf, minorOf, layerOf, wayOf, marked, passed, Cut, Even}
-use Rattle.keys.specs.KeyLaws.{minor-less, layer-less, way-two, passed-over, passed-at, passed-le, points-rise, minor-rises, major-rises}
+use Rattle.keys.specs.KeyLaws.{layer-less, way-two, passed-over, passed-at, passed-le, points-rise, minor-rises, major-rises}
 use Rattle.rows.specs.Rows.{rowAt, Spread, AllFit}
 use Rattle.advance.specs.Advanced.{Rows, AdvanceOk, Advanced, FirstIs}
 
@@ -41,22 +41,22 @@ east-marked k l = and-swap (eqb (layerOf k) l) (eqb (wayOf k) 0) ∙ ap (λ (b :
 
 -- ---- the loop
 
-pub record Advancing (ks : List ℕ) (p g lo hi e : ℕ) (s : Scanline) (c₀ c : List ℕ) : Type 0 where
+pub record Advancing (n : ℕ) (ks : List ℕ) (p g lo hi e : ℕ) (s : Scanline) (c₀ c : List ℕ) : Type 0 where
   pub from : g ≤ e
   pub to : e ≤ length ks
   pub low : lo ≤ hi
   pub start : FirstIs ks g lo
   pub last : g < e → hi ≡ minorOf (getD ks (e - 1) 0)
   pub none : g ≡ e → hi ≡ lo
-  pub within : (n : ℕ) → 0 < n → ((i : ℕ) → i < length ks → minorOf (getD ks i 0) < n) → hi < n
+  pub within : (m : ℕ) → 0 < m → ((i : ℕ) → i < length ks → minorOf (getD ks i 0) < m) → hi < m
   pub here : (i : ℕ) → g ≤ i → i < e → majorOf (getD ks i 0) ≡ p
   pub ahead : (i : ℕ) → e ≤ i → i < length ks → majorOf (getD ks i 0) ≡ p → hi ≤ minorOf (getD ks i 0)
-  pub long : length c ≡ 65536
+  pub long : length c ≡ 8 * n
   -- the rows below `hi` have the keys up to e, the others those up to g
-  pub behind : (l r : ℕ) → l < 8 → r < hi → rowAt c l r + passed ks 0 l r e ≡ 8192 + passed ks 1 l r e
-  pub before : (l r : ℕ) → l < 8 → hi ≤ r → r < 8192 → rowAt c l r ≡ rowAt c₀ l r
-  pub below : (l r : ℕ) → l < 8 → r < lo → rowAt c l r ≡ rowAt c₀ l r
-  pub unseen : (l r : ℕ) → l < 8 → r < 8192 → getD (s .counts .wests) l 0 ≡ 0 → getD (s .counts .easts) l 0 ≡ 0 → rowAt c l r ≡ rowAt c₀ l r
+  pub behind : (l r : ℕ) → l < 8 → r < hi → rowAt n c l r + passed ks 0 l r e ≡ 8192 + passed ks 1 l r e
+  pub before : (l r : ℕ) → l < 8 → hi ≤ r → r < n → rowAt n c l r ≡ rowAt n c₀ l r
+  pub below : (l r : ℕ) → l < 8 → r < lo → rowAt n c l r ≡ rowAt n c₀ l r
+  pub unseen : (l r : ℕ) → l < 8 → r < n → getD (s .counts .wests) l 0 ≡ 0 → getD (s .counts .easts) l 0 ≡ 0 → rowAt n c l r ≡ rowAt n c₀ l r
   -- and the counts handed on are what they lack
   pub wests : (l r : ℕ) → l < 8 → hi ≤ r → passed ks 1 l r e ≡ passed ks 1 l r g + getD (s .counts .wests) l 0
   pub easts : (l r : ℕ) → l < 8 → hi ≤ r → passed ks 0 l r e ≡ passed ks 0 l r g + getD (s .counts .easts) l 0
@@ -73,8 +73,8 @@ first-within ks g lo F n h b = go (decLt g (length ks))
     go (yes u) = omega (arith, F .there u, b g u)
     go (no u) = omega (arith, F .none (omega arith))
 
-module _ {ks : List ℕ} {p g : ℕ} {c₀ : List ℕ} (ok : AdvanceOk ks p g c₀) where
-  pub advance-start : (lo : ℕ) → FirstIs ks g lo → Advancing ks p g lo lo g freshLine c₀ c₀
+module _ {n : ℕ} {ks : List ℕ} {p g : ℕ} {c₀ : List ℕ} (ok : AdvanceOk n ks p g c₀) where
+  pub advance-start : (lo : ℕ) → FirstIs ks g lo → Advancing n ks p g lo lo g freshLine c₀ c₀
   unfolding Rows
   advance-start lo F = record {
     from = omega arith;
@@ -94,7 +94,7 @@ module _ {ks : List ℕ} {p g : ℕ} {c₀ : List ℕ} (ok : AdvanceOk ks p g c�
           omega arith),
     );
     long = ok .long;
-    behind = λ l r h h′. ok .rows l r h (omega (arith, first-within ks g lo F 8192 (omega arith) (λ i _. minor-less (getD ks i 0))));
+    behind = λ l r h h′. ok .rows l r h (omega (arith, first-within ks g lo F n (ok .some) (ok .in-rows)));
     before = λ l r _ _ _. refl;
     below = λ l r _ _. refl;
     unseen = λ l r _ _ _ _. refl;
@@ -107,12 +107,12 @@ module _ {ks : List ℕ} {p g : ℕ} {c₀ : List ℕ} (ok : AdvanceOk ks p g c�
     few-easts = λ l. omega (arith, fresh-zero l);
   }
 
-  module _ {lo hi e : ℕ} {s : Scanline} {c : List ℕ} (S : Advancing ks p g lo hi e s c₀ c) where
-    hi-less : hi < 8192
-    hi-less = S .within 8192 (omega arith) (λ i _. minor-less (getD ks i 0))
+  module _ {lo hi e : ℕ} {s : Scanline} {c : List ℕ} (S : Advancing n ks p g lo hi e s c₀ c) where
+    hi-less : hi < n
+    hi-less = S .within n (ok .some) (ok .in-rows)
 
     -- the counts handed on can be added to the rows from `hi` on
-    pub advance-fits : (r : ℕ) → r ≤ 8192 → AllFit hi r (s .counts) c
+    pub advance-fits : (r : ℕ) → r ≤ n → AllFit n hi r (s .counts) c
     unfolding Rows
     advance-fits r h l q hl g₁ g₂ =
         let a = ok .rows l q hl (omega arith) in
@@ -131,8 +131,8 @@ module _ {ks : List ℕ} {p g : ℕ} {c₀ : List ℕ} (ok : AdvanceOk ks p g c�
       pub advance-bounded : Bounded s
       advance-bounded = record { room = omega (arith, S .number, S .to, ok .few); wests = S .few-wests; easts = S .few-easts }
 
-      pub advance-turn : {c′ : List ℕ} → Spread hi (minorOf (getD ks e 0)) (s .counts) c c′ →
-          Advancing ks p g lo (minorOf (getD ks e 0)) (e + 1) (past s (layerOf (getD ks e 0)) (eqb (wayOf (getD ks e 0)) 1)) c₀ c′
+      pub advance-turn : {c′ : List ℕ} → Spread n hi (minorOf (getD ks e 0)) (s .counts) c c′ →
+          Advancing n ks p g lo (minorOf (getD ks e 0)) (e + 1) (past s (layerOf (getD ks e 0)) (eqb (wayOf (getD ks e 0)) 1)) c₀ c′
       unfolding Rows
       advance-turn {c′} T =
           let k : ℕ = getD ks e 0 in
@@ -144,7 +144,7 @@ module _ {ks : List ℕ} {p g : ℕ} {c₀ : List ℕ} (ok : AdvanceOk ks p g c�
             start = S .start;
             last = λ _. let z : e + 1 - 1 ≡ e = omega arith in rw z;
             none = λ q. let z : ⊥ = omega (arith, S .from) in absurd z;
-            within = λ n _ b. b e h;
+            within = λ m _ b. b e h;
             here = λ i u v. now i u v (ℕ-discrete i e);
             ahead = λ i u v q. minor-rises k (getD ks i 0) (points-rise ks (ok .by-point) e i (omega arith) v) (mine ∙ sym q);
             long = T .long;
@@ -168,19 +168,19 @@ module _ {ks : List ℕ} {p g : ℕ} {c₀ : List ℕ} (ok : AdvanceOk ks p g c�
           east l = east-at (s .counts) (layerOf (getD ks e 0)) (eqb (wayOf (getD ks e 0)) 1) l (omega (arith, layer-less (getD ks e 0), S .eight-easts))
 
           now : (i : ℕ) → g ≤ i → i < e + 1 → Dec (i ≡ e) → majorOf (getD ks i 0) ≡ p
-          now i u v (yes q) = ap (λ (n : ℕ). majorOf (getD ks n 0)) q ∙ mine
+          now i u v (yes q) = ap (λ (k : ℕ). majorOf (getD ks k 0)) q ∙ mine
           now i u v (no q) = S .here i u (omega arith)
 
-          kept : (l r : ℕ) → l < 8 → r < 8192 → getD (s .counts .wests) l 0 ≡ 0 → getD (s .counts .easts) l 0 ≡ 0 → Dec (r < hi) → Dec (r < minorOf (getD ks e 0)) → rowAt c′ l r ≡ rowAt c₀ l r
+          kept : (l r : ℕ) → l < 8 → r < n → getD (s .counts .wests) l 0 ≡ 0 → getD (s .counts .easts) l 0 ≡ 0 → Dec (r < hi) → Dec (r < minorOf (getD ks e 0)) → rowAt n c′ l r ≡ rowAt n c₀ l r
           kept l r hl hr u v (yes q) d = T .same l r hl hr (λ w _. let z : ⊥ = omega arith in absurd z) ∙ S .unseen l r hl hr u v
           kept l r hl hr u v (no q) (yes d) = omega (arith, T .moved l r hl (omega arith) d, S .unseen l r hl hr u v)
           kept l r hl hr u v (no q) (no d) = T .same l r hl hr (λ _ w. d w) ∙ S .unseen l r hl hr u v
 
-          done : (l r : ℕ) → l < 8 → r < minorOf (getD ks e 0) → Dec (r < hi) → rowAt c′ l r + passed ks 0 l r (e + 1) ≡ 8192 + passed ks 1 l r (e + 1)
+          done : (l r : ℕ) → l < 8 → r < minorOf (getD ks e 0) → Dec (r < hi) → rowAt n c′ l r + passed ks 0 l r (e + 1) ≡ 8192 + passed ks 1 l r (e + 1)
           done l r hl u (yes q) =
               omega (arith, T .same l r hl (omega (arith, hi-less)) (λ w _. let z : ⊥ = omega arith in absurd z), S .behind l r hl q, passed-over ks 0 l r e h u, passed-over ks 1 l r e h u)
           done l r hl u (no q) =
-              let b : r < 8192 = omega (arith, minor-less (getD ks e 0)) in
+              let b : r < n = omega (arith, ok .in-rows e h) in
               omega (
                 arith,
                 T .moved l r hl (omega arith) u,
@@ -213,28 +213,28 @@ module _ {ks : List ℕ} {p g : ℕ} {c₀ : List ℕ} (ok : AdvanceOk ks p g c�
       even-again : (l : ℕ) → l < 8 → getD (s .counts .wests) l 0 ≡ getD (s .counts .easts) l 0
       unfolding Even
       even-again l h =
-          let t : hi ≤ 8191 = omega (arith, hi-less) in
+          let t : hi ≤ 8191 = omega (arith, hi-less, ok .rows-few) in
           omega (arith, ok .even p g l (ok .cut) h, ok .even (p + 1) e l cut-here h, S .wests l 8191 h t, S .easts l 8191 h t)
 
-      all-rows : Rows ks e c
+      all-rows : Rows n ks e c
       unfolding Rows
       all-rows l r hl hr = go (decLt r hi)
         where
-          go : Dec (r < hi) → rowAt c l r + passed ks 0 l r e ≡ 8192 + passed ks 1 l r e
+          go : Dec (r < hi) → rowAt n c l r + passed ks 0 l r e ≡ 8192 + passed ks 1 l r e
           go (yes u) = S .behind l r hl u
           go (no u) = omega (arith, S .before l r hl (omega arith) hr, ok .rows l r hl hr, S .wests l r hl (omega arith), S .easts l r hl (omega arith), even-again l hl)
 
-      row-still : (l r : ℕ) → l < 8 → r < 8192 → (lo ≤ r → r < hi → ⊥) → rowAt c l r ≡ rowAt c₀ l r
-      row-still l r hl hr n = go (decLt r lo) (decLt r hi)
+      row-still : (l r : ℕ) → l < 8 → r < n → (lo ≤ r → r < hi → ⊥) → rowAt n c l r ≡ rowAt n c₀ l r
+      row-still l r hl hr m = go (decLt r lo) (decLt r hi)
         where
-          go : Dec (r < lo) → Dec (r < hi) → rowAt c l r ≡ rowAt c₀ l r
+          go : Dec (r < lo) → Dec (r < hi) → rowAt n c l r ≡ rowAt n c₀ l r
           go (yes u) v = S .below l r hl u
-          go (no u) (yes v) = absurd (n (omega arith) v)
+          go (no u) (yes v) = absurd (m (omega arith) v)
           go (no u) (no v) = S .before l r hl (omega arith) hr
 
-      pub advance-done : Advanced ks p g c₀ c (record { lo = lo; hi = hi; scanline = s })
+      pub advance-done : Advanced n ks p g c₀ c (record { lo = lo; hi = hi; scanline = s })
       advance-done =
-          let t : hi ≤ 8191 = omega (arith, hi-less) in
+          let t : hi ≤ 8191 = omega (arith, hi-less, ok .rows-few) in
           record {
             cut = rw (S .number) cut-here;
             rows = rw (S .number) all-rows;

@@ -1,4 +1,4 @@
-// One place's corners onto the rows of counts.
+// One place's corners onto the rows of counts, of which each layer has n.
 use scanline::Scanline;
 ghost use Rattle.advance.specs.Advanced.{AdvanceOk, Advanced, FirstIs};
 
@@ -21,9 +21,9 @@ fn first(keys: &[u32], g: usize) -> usize
 // The corners of place p, from key g on. A fresh scanline passes them in the order of their rows; before each the counts handed on
 // so far are added to the rows since the one before. Past the last the counts are even, so no row beyond it changes.
 // Cost: the corners of the place, and for each layer whose count is not even the rows between two corners.
-pub fn advance(keys: &[u32], p: usize, g: usize, c: &mut [u16]) -> Touched
-    requires { ⌜ AdvanceOk (now keys) p g (now c) ⌝ }
-    ensures { λ r. ⌜ Advanced (now (keys .entry)) p g (now (c .entry)) (now (c .exit)) r ⌝ }
+pub fn advance(keys: &[u32], p: usize, g: usize, n: usize, c: &mut [u16]) -> Touched
+    requires { ⌜ AdvanceOk n (now keys) p g (now c) ⌝ }
+    ensures { λ r. ⌜ Advanced n (now (keys .entry)) p g (now (c .entry)) (now (c .exit)) r ⌝ }
 {
     let lo = first(keys, g);
     let mut hi = lo;
@@ -40,7 +40,7 @@ pub fn advance(keys: &[u32], p: usize, g: usize, c: &mut [u16]) -> Touched
         }
         let r = keys::minor(k);
         let d = s.counts;
-        rows::spread(c, hi, r, d);
+        rows::spread(c, n, hi, r, d);
         s = s.crossing(keys::layer(k), keys::west(k));
         hi = r;
         e += 1;

@@ -1,10 +1,9 @@
-// From counts to which rows are inside: the only place that knows the coverage rule and the expression.
-use rows::ROWS;
+// From counts to which rows are inside: the only place that knows the coverage rule and the expression. A layer has n rows.
 use rows::ZERO;
 use scanline::Counts;
 use scanline::Scanline;
 ghost use mathlib.Core.Path.{_≡_};
-ghost use Prim.Native.Nat.{_<_, _≤_};
+ghost use Prim.Native.Nat.{_*_, _<_, _≤_};
 ghost use lib.IntN.{pos, _-ℤ_};
 ghost use lib.ListN.{length};
 ghost use Rattle.meaning.specs.Numbers.{bit};
@@ -27,11 +26,11 @@ fn turned(cover: u8, layer: usize, d: u8) -> u8
 }
 
 // A layer's digit in the covers of the rows from a on, below b.
-fn digits(c: &[u16], covers: &mut [u8], layer: usize, a: usize, b: usize)
-    requires { ⌜ (length (now c) ≡ 65536) × (length (now covers) ≡ 8192) × (layer < 8) × (a ≤ b) × (b ≤ 8192) ⌝ }
-    ensures { λ _. ⌜ Digits layer a b (now (c .entry)) (now (covers .entry)) (now (covers .exit)) ⌝ }
+fn digits(c: &[u16], n: usize, covers: &mut [u8], layer: usize, a: usize, b: usize)
+    requires { ⌜ (length (now c) ≡ 8 * n) × (n ≤ 8192) × (length (now covers) ≡ n) × (layer < 8) × (a ≤ b) × (b ≤ n) ⌝ }
+    ensures { λ _. ⌜ Digits n layer a b (now (c .entry)) (now (covers .entry)) (now (covers .exit)) ⌝ }
 {
-    let base = layer * ROWS;
+    let base = layer * n;
     let mut r = a;
     while r < b {
         covers[r] = turned(covers[r], layer, covering(c[base + r]));
@@ -39,24 +38,24 @@ fn digits(c: &[u16], covers: &mut [u8], layer: usize, a: usize, b: usize)
     }
 }
 
-fn digits_seen(c: &[u16], covers: &mut [u8], layer: usize, a: usize, b: usize, seen: u16)
-    requires { ⌜ (length (now c) ≡ 65536) × (length (now covers) ≡ 8192) × (layer < 8) × (a ≤ b) × (b ≤ 8192) ⌝ }
-    ensures { λ _. ⌜ (seen ≡ 0 → now (covers .exit) ≡ now (covers .entry)) × (0 < seen → Digits layer a b (now (c .entry)) (now (covers .entry)) (now (covers .exit))) ⌝ }
+fn digits_seen(c: &[u16], n: usize, covers: &mut [u8], layer: usize, a: usize, b: usize, seen: u16)
+    requires { ⌜ (length (now c) ≡ 8 * n) × (n ≤ 8192) × (length (now covers) ≡ n) × (layer < 8) × (a ≤ b) × (b ≤ n) ⌝ }
+    ensures { λ _. ⌜ (seen ≡ 0 → now (covers .exit) ≡ now (covers .entry)) × (0 < seen → Digits n layer a b (now (c .entry)) (now (covers .entry)) (now (covers .exit))) ⌝ }
 {
     if seen == 0 {
         return;
     }
-    digits(c, covers, layer, a, b);
+    digits(c, n, covers, layer, a, b);
 }
 
 // The covers of the rows from a on, below b: one pass for each layer that was seen.
-fn cover(c: &[u16], covers: &mut [u8], a: usize, b: usize, seen: Counts)
-    requires { ⌜ CoverOk (now c) (now covers) a b (seen .wests) ⌝ }
-    ensures { λ _. ⌜ Covered (now (c .entry)) (now (covers .exit)) ⌝ }
+fn cover(c: &[u16], n: usize, covers: &mut [u8], a: usize, b: usize, seen: Counts)
+    requires { ⌜ CoverOk n (now c) (now covers) a b (seen .wests) ⌝ }
+    ensures { λ _. ⌜ Covered n (now (c .entry)) (now (covers .exit)) ⌝ }
 {
     let mut l = 0;
     while l < Scanline::LAYERS {
-        digits_seen(c, covers, l, a, b, seen.wests[l]);
+        digits_seen(c, n, covers, l, a, b, seen.wests[l]);
         l += 1;
     }
 }
@@ -69,7 +68,7 @@ fn wide(x: u8) -> usize
 
 // What the expression makes of the covers of the rows from a on, below b.
 fn tell(covers: &[u8], truth: &[bool], new: &mut [bool], a: usize, b: usize)
-    requires { ⌜ (length (now covers) ≡ 8192) × (length (now truth) ≡ 256) × (length (now new) ≡ 8192) × (a ≤ b) × (b ≤ 8192) ⌝ }
+    requires { ⌜ (b ≤ length (now covers)) × (length (now truth) ≡ 256) × (b ≤ length (now new)) × (a ≤ b) ⌝ }
     ensures { λ _. ⌜ Told (now (covers .entry)) (now (truth .entry)) a b (now (new .entry)) (now (new .exit)) ⌝ }
 {
     let mut r = a;
@@ -83,6 +82,7 @@ fn tell(covers: &[u8], truth: &[bool], new: &mut [bool], a: usize, b: usize)
 // Cost: these rows, once for each such layer and once for the expression.
 pub fn inside(
     c: &[u16],
+    n: usize,
     covers: &mut [u8],
     truth: &[bool],
     new: &mut [bool],
@@ -90,9 +90,9 @@ pub fn inside(
     b: usize,
     seen: Counts,
 )
-    requires { ⌜ InsideOk (now c) (now covers) (now truth) (now new) a b (seen .wests) ⌝ }
-    ensures { λ _. ⌜ Flags (now (truth .entry)) (now (c .entry)) (now (covers .exit)) (now (new .exit)) ⌝ }
+    requires { ⌜ InsideOk n (now c) (now covers) (now truth) (now new) a b (seen .wests) ⌝ }
+    ensures { λ _. ⌜ Flags n (now (truth .entry)) (now (c .entry)) (now (covers .exit)) (now (new .exit)) ⌝ }
 {
-    cover(c, covers, a, b, seen);
+    cover(c, n, covers, a, b, seen);
     tell(covers, truth, new, a, b);
 }

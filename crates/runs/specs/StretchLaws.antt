@@ -130,7 +130,7 @@ module _ {kind : ℕ} {mnr : List ℕ} {old₀ new : List Bool} {lo hi : ℕ} (o
 
   module _ {old : List Bool} {r : ℕ} (S : Pace old₀ new lo hi old r) where
     pub rows-in : RowsIn old new r hi
-    rows-in = record { long-old = S .long ∙ ok .long-old; long-new = ok .long-new; order = S .to; top = omega (arith, ok .last, ok .some) }
+    rows-in = record { long-old = omega (arith, S .long, ok .long-old, ok .last); long-new = omega (arith, ok .long-new, ok .last); order = S .to; top = omega (arith, ok .last, ok .some) }
 
     ahead : (q : ℕ) → r ≤ q → getD old q false ≡ getD old₀ q false
     ahead q u = S .same q (λ _ v. let z : ⊥ = omega arith in absurd z)

@@ -29,8 +29,8 @@ abbrev pub Directs : (ℕ → Dir) → ℕ → List ℕ → List Bool → List B
 Directs h kind mnr old new = (r : ℕ) → r < length mnr → h (getD mnr r 0) ≡ turnBy kind (getD old r false) (getD new r false)
 
 pub record RowsIn (old new : List Bool) (r hi : ℕ) : Type 0 where
-  pub long-old : length old ≡ 8192
-  pub long-new : length new ≡ 8192
+  pub long-old : hi ≤ length old
+  pub long-new : hi ≤ length new
   pub order : r ≤ hi
   pub top : hi ≤ 8192
 
@@ -67,8 +67,8 @@ pub record LineIn (kind : ℕ) (mnr : List ℕ) (old new : List Bool) (lo hi : �
   pub each : (i : ℕ) → getD mnr i 0 ≤ 2147483648
   pub rising : Rising zero mnr
   pub some : length mnr ≤ 8192
-  pub long-old : length old ≡ 8192
-  pub long-new : length new ≡ 8192
+  pub long-old : length mnr ≤ length old
+  pub long-new : length mnr ≤ length new
   pub order : lo ≤ hi
   pub last : hi < length mnr
   pub quiet : (r : ℕ) → r < length mnr → (lo ≤ r → r < hi → ⊥) → getD old r false ≡ getD new r false

@@ -41,16 +41,16 @@ counted-cut ks maj mnr w l p q e rj rn ok hp hq cut =
     rw (getD-take e ks i 0 u)
     (ap (λ (b : Bool). pick b (bit (marked w l (getD ks i 0))) 0) (rank-leb mnr (minorOf (getD ks i 0)) q rn (ok .minors i (omega (arith, cut .fits))) hq)))
 
-pub cell-row : (ks maj mnr c : List ℕ) (truth : List Bool) (p q e : ℕ) → Rising zero maj → Rising zero mnr → KeysOk ks (length maj) (length mnr) → p < length maj → q < length mnr → q < 8192 → Cut ks (p + 1) e → Rows ks e c →
-    cellOf ks maj mnr truth (getD maj p 0) (getD mnr q 0) ≡ holdsOf truth (coversRow c q)
+pub cell-row : (n : ℕ) (ks maj mnr c : List ℕ) (truth : List Bool) (p q e : ℕ) → Rising zero maj → Rising zero mnr → KeysOk ks (length maj) (length mnr) → p < length maj → q < length mnr → q < n → Cut ks (p + 1) e → Rows n ks e c →
+    cellOf ks maj mnr truth (getD maj p 0) (getD mnr q 0) ≡ holdsOf truth (coversRow n c q)
 unfolding cellOf holdsOf Rows
-cell-row ks maj mnr c truth p q e rj rn ok hp hq h cut R =
+cell-row n ks maj mnr c truth p q e rj rn ok hp hq h cut R =
     ap (λ (m : ℕ). getD truth m false)
     (ofBits-same 8 _ _ (λ l hl.
-    ap₂ (λ (m n : ℕ). covers (pos m -ℤ pos n)) (counted-cut ks maj mnr 1 l p q e rj rn ok hp hq cut) (counted-cut ks maj mnr 0 l p q e rj rn ok hp hq cut)
-    ∙ covers-same (passed ks 1 l q e) (passed ks 0 l q e) (rowAt c l q) 8192 (omega (arith, R l q hl h))))
+    ap₂ (λ (a b : ℕ). covers (pos a -ℤ pos b)) (counted-cut ks maj mnr 1 l p q e rj rn ok hp hq cut) (counted-cut ks maj mnr 0 l p q e rj rn ok hp hq cut)
+    ∙ covers-same (passed ks 1 l q e) (passed ks 0 l q e) (rowAt n c l q) 8192 (omega (arith, R l q hl h))))
 
 -- rows that have the same counts are inside together
-pub flags-same : (c c′ : List ℕ) (truth : List Bool) (r : ℕ) → ((l : ℕ) → l < 8 → rowAt c l r ≡ rowAt c′ l r) → holdsOf truth (coversRow c r) ≡ holdsOf truth (coversRow c′ r)
+pub flags-same : (n : ℕ) (c c′ : List ℕ) (truth : List Bool) (r : ℕ) → ((l : ℕ) → l < 8 → rowAt n c l r ≡ rowAt n c′ l r) → holdsOf truth (coversRow n c r) ≡ holdsOf truth (coversRow n c′ r)
 unfolding holdsOf
-flags-same c c′ truth r e = ap (λ (m : ℕ). getD truth m false) (ofBits-same 8 _ _ (λ l hl. ap (λ (n : ℕ). covers (pos n -ℤ pos 8192)) (e l hl)))
+flags-same n c c′ truth r e = ap (λ (m : ℕ). getD truth m false) (ofBits-same 8 _ _ (λ l hl. ap (λ (k : ℕ). covers (pos k -ℤ pos 8192)) (e l hl)))

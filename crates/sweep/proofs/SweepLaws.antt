@@ -15,8 +15,8 @@ use Rattle.grid.specs.Covering.{covers-none}
 use Rattle.grid.specs.Plane.{recordAt, lineOver}
 use Rattle.grid.specs.Rows.{rows}
 use Rattle.keys.specs.Key.{Cut}
-use Rattle.keys.specs.KeyLaws.{minor-less, passed-none}
-use Rattle.rows.specs.Rows.{rowAt}
+use Rattle.keys.specs.KeyLaws.{passed-none}
+use Rattle.rows.specs.Rows.{rowAt, layer-fits}
 use Rattle.advance.specs.declared.Touched.{Touched}
 use Rattle.advance.specs.Advanced.{Rows, Advanced}
 use Rattle.covering.specs.Cover.{holdsOf, coversRow, Flags, InsideOk}
@@ -33,15 +33,16 @@ use Rattle.sweep.proofs.CellLaws.{cell-row, flags-same}
 
 -- ---- one place
 
-pub turn-inside : {ks : List ℕ} {p g : ℕ} {truth : List Bool} {c₀ c m : List ℕ} {new : List Bool} {t : Touched} → TurnOk ks p g truth c₀ m new → Advanced ks p g c₀ c t →
-    InsideOk c m truth new (t .lo) (t .hi) (t .scanline .counts .wests)
-turn-inside {ks} {p} {g} {truth} {c₀} {c} {m} {new} {t} ok A = record {
+pub turn-inside : {n : ℕ} {ks : List ℕ} {p g : ℕ} {truth : List Bool} {c₀ c m : List ℕ} {new : List Bool} {t : Touched} → TurnOk n ks p g truth c₀ m new → Advanced n ks p g c₀ c t →
+    InsideOk n c m truth new (t .lo) (t .hi) (t .scanline .counts .wests)
+turn-inside {n} {ks} {p} {g} {truth} {c₀} {c} {m} {new} {t} ok A = record {
   cover = record {
     was = c₀;
     covered = ok .flags .covered;
     counts = A .long;
+    few = ok .place .rows-few;
     order = A .order;
-    top = omega (arith, A .within 8192 (omega arith) (λ i _. minor-less (getD ks i 0)));
+    top = omega (arith, A .within n (ok .place .some) (ok .place .in-rows));
     still = A .still;
     unseen = A .unseen;
   };
@@ -74,78 +75,94 @@ lines-none kind ks maj mnr truth p h = rw (drop-of-length-le maj h)
 
 -- ---- the state before place number p
 
-pub record State (ks maj mnr : List ℕ) (truth : List Bool) (c m : List ℕ) (old new : List Bool) (g p : ℕ) : Type 0 where
+pub record State (n : ℕ) (ks maj mnr : List ℕ) (truth : List Bool) (c m : List ℕ) (old new : List Bool) (g p : ℕ) : Type 0 where
   pub inside : p ≤ length maj
   pub cut : Cut ks p g
-  pub rows-are : Rows ks g c
-  pub long : length c ≡ 65536
-  pub flags : Flags truth c m new
-  pub long-old : length old ≡ 8192
+  pub few : n ≤ 8192
+  pub enough : length mnr ≤ n
+  pub rows-are : Rows n ks g c
+  pub long : length c ≡ 8 * n
+  pub flags : Flags n truth c m new
+  pub long-old : length old ≡ n
   pub told : (r : ℕ) → r < length mnr → getD old r false ≡ getD new r false
   pub cells : (r : ℕ) → r < length mnr → getD old r false ≡ oldAt (cellOf ks maj mnr truth) maj p (getD mnr r 0)
 
 -- with the records that are left, or their weights
 
-pub record Sweeping (out₀ : List ℤ) (kind : ℕ) (ks maj mnr : List ℕ) (truth : List Bool) (out : List ℤ) (c m : List ℕ) (old new : List Bool) (n g p : ℕ) : Type 0 where
-  pub state : State ks maj mnr truth c m old new g p
+pub record Sweeping (n : ℕ) (out₀ : List ℤ) (kind : ℕ) (ks maj mnr : List ℕ) (truth : List Bool) (out : List ℤ) (c m : List ℕ) (old new : List Bool) (i g p : ℕ) : Type 0 where
+  pub state : State n ks maj mnr truth c m old new g p
   pub wide : length out ≡ length out₀
-  pub few : n ≤ p * 8192
-  pub left : Left out₀ 0 (swept kind ks maj mnr truth) out n (linesFrom kind ks maj mnr truth p)
+  pub few : i ≤ p * 8192
+  pub left : Left out₀ 0 (swept kind ks maj mnr truth) out i (linesFrom kind ks maj mnr truth p)
 
-pub record Summing (ks ys xs : List ℕ) (truth : List Bool) (c m : List ℕ) (old new : List Bool) (sum g p : ℕ) : Type 0 where
-  pub state : State ks ys xs truth c m old new g p
+pub record Summing (n : ℕ) (ks ys xs : List ℕ) (truth : List Bool) (c m : List ℕ) (old new : List Bool) (sum g p : ℕ) : Type 0 where
+  pub state : State n ks ys xs truth c m old new g p
   pub left : Owed 0 (swept 0 ks ys xs truth) sum (linesFrom 0 ks ys xs truth p)
 
 module _ {kind : ℕ} {ks maj mnr : List ℕ} {truth : List Bool} (ok : SweepOk kind ks maj mnr truth) where
-  state-start : {c m : List ℕ} {old new : List Bool} → Fresh ks truth c m old new → State ks maj mnr truth c m old new 0 0
+  state-start : {n : ℕ} {c m : List ℕ} {old new : List Bool} → Fresh n ks mnr truth c m old new → State n ks maj mnr truth c m old new 0 0
   state-start F = record {
     inside = omega arith;
     cut = record { fits = omega arith; low = λ i h. let z : ⊥ = omega arith in absurd z; high = λ i _ _. omega arith };
+    few = F .few;
+    enough = F .enough;
     rows-are = F .rows;
     long = F .long;
     flags = F .flags (ok .empty);
     long-old = F .long-old;
-    told = λ r h. F .none r (omega (arith, ok .some)) ∙ sym (F .none-new r (omega (arith, ok .some)));
-    cells = λ r h. F .none r (omega (arith, ok .some));
+    told = λ r h. F .none r (omega (arith, F .enough)) ∙ sym (F .none-new r (omega (arith, F .enough)));
+    cells = λ r h. F .none r (omega (arith, F .enough));
   }
 
-  module _ {c m : List ℕ} {old new : List Bool} {g p : ℕ} (S : State ks maj mnr truth c m old new g p) (h : p < length maj) where
-    pub turn-ok : TurnOk ks p g truth c m new
+  module _ {n : ℕ} {c m : List ℕ} {old new : List Bool} {g p : ℕ} (S : State n ks maj mnr truth c m old new g p) (h : p < length maj) where
+    pub turn-ok : TurnOk n ks p g truth c m new
     turn-ok = record {
-      place = record { few = ok .keys .few; by-point = ok .keys .by-point; even = ok .keys .even; cut = S .cut; rows = S .rows-are; long = S .long };
+      place = record {
+        few = ok .keys .few;
+        rows-few = S .few;
+        some = omega (arith, S .enough, ok .not-none (omega arith));
+        in-rows = λ i u. omega (arith, S .enough, ok .keys .minors i u);
+        by-point = ok .keys .by-point;
+        even = ok .keys .even;
+        cut = S .cut;
+        rows = S .rows-are;
+        long = S .long;
+      };
       flags = S .flags;
       long-truth = ok .long-truth;
     }
 
-    module _ {c′ m′ : List ℕ} {new′ : List Bool} {t : Touched} (T : Turned ks p g truth c c′ m′ new′ t) where
+    module _ {c′ m′ : List ℕ} {new′ : List Bool} {t : Touched} (T : Turned n ks p g truth c c′ m′ new′ t) where
       pub line-in : LineIn kind mnr old new′ (t .lo) (t .hi)
       line-in = record {
         kind-ok = ok .kind-ok;
         each = ok .each;
         rising = ok .rising;
         some = ok .some;
-        long-old = S .long-old;
-        long-new = T .flags .long;
+        long-old = omega (arith, S .long-old, S .enough);
+        long-new = omega (arith, T .flags .long, S .enough);
         order = T .place .order;
         last = T .place .within (length mnr) (ok .not-none (omega arith)) (ok .keys .minors);
-        quiet = λ r u q. let b : r < 8192 = omega (arith, ok .some) in
-            S .told r u ∙ S .flags .told r b ∙ flags-same c c′ truth r (λ l hl. sym (T .place .still l r hl b q)) ∙ sym (T .flags .told r b);
+        quiet = λ r u q. let b : r < n = omega (arith, S .enough) in
+            S .told r u ∙ S .flags .told r b ∙ flags-same n c c′ truth r (λ l hl. sym (T .place .still l r hl b q)) ∙ sym (T .flags .told r b);
       }
 
       -- each row tells the cell of this place
       cell-is : (r : ℕ) → r < length mnr → cellOf ks maj mnr truth (getD maj p 0) (getD mnr r 0) ≡ getD new′ r false
       cell-is r u =
-          let b : r < 8192 = omega (arith, ok .some) in
-          cell-row ks maj mnr c′ truth p r (g + t .scanline .passed) (ok .rising-places) (ok .rising) (ok .keys) h u b (T .place .cut) (T .place .rows) ∙ sym (T .flags .told r b)
+          let b : r < n = omega (arith, S .enough) in
+          cell-row n ks maj mnr c′ truth p r (g + t .scanline .passed) (ok .rising-places) (ok .rising) (ok .keys) h u b (T .place .cut) (T .place .rows) ∙ sym (T .flags .told r b)
 
       -- the line of this place, as the flags say
       line-directs : Directs (λ k. turnBy kind (oldAt (cellOf ks maj mnr truth) maj p k) (cellOf ks maj mnr truth (getD maj p 0) k)) kind mnr old new′
       line-directs r u = ap₂ (turnBy kind) (sym (S .cells r u)) (cell-is r u)
 
-      state-turn : {old′ : List Bool} {g′ : ℕ} → ((q : ℕ) → q < length mnr → getD old′ q false ≡ getD new′ q false) → length old′ ≡ length old → g′ ≡ g + t .scanline .passed → State ks maj mnr truth c′ m′ old′ new′ g′ (p + 1)
+      state-turn : {old′ : List Bool} {g′ : ℕ} → ((q : ℕ) → q < length mnr → getD old′ q false ≡ getD new′ q false) → length old′ ≡ length old → g′ ≡ g + t .scanline .passed → State n ks maj mnr truth c′ m′ old′ new′ g′ (p + 1)
       state-turn told long e = rw e (record {
         inside = omega arith;
         cut = T .place .cut;
+        few = S .few;
+        enough = S .enough;
         rows-are = T .place .rows;
         long = T .place .long;
         flags = T .flags;
@@ -156,16 +173,16 @@ module _ {kind : ℕ} {ks maj mnr : List ℕ} {truth : List Bool} (ok : SweepOk 
 
   -- ---- the records
 
-  pub sweep-start : (out : List ℤ) {c m : List ℕ} {old new : List Bool} → Fresh ks truth c m old new → Sweeping out kind ks maj mnr truth out c m old new 0 0 0
+  pub sweep-start : (out : List ℤ) {n : ℕ} {c m : List ℕ} {old new : List Bool} → Fresh n ks mnr truth c m old new → Sweeping n out kind ks maj mnr truth out c m old new 0 0 0
   unfolding swept
   sweep-start out F = record { state = state-start F; wide = refl; few = omega arith; left = left-all _ _ _ }
 
-  module _ {out₀ out : List ℤ} {c m : List ℕ} {old new : List Bool} {n g p : ℕ} (S : Sweeping out₀ kind ks maj mnr truth out c m old new n g p) (h : p < length maj) where
-    pub sweep-room : Roomy n (getD maj p 0)
+  module _ {out₀ out : List ℤ} {c m : List ℕ} {old new : List Bool} {n i g p : ℕ} (S : Sweeping n out₀ kind ks maj mnr truth out c m old new i g p) (h : p < length maj) where
+    pub sweep-room : Roomy i (getD maj p 0)
     sweep-room = record { few = omega (arith, S .few, ok .some-places); place-ok = ok .each-place p }
 
-    pub sweep-turn : {c′ m′ : List ℕ} {new′ old′ : List Bool} {t : Touched} {out′ : List ℤ} {n′ g′ : ℕ} → Turned ks p g truth c c′ m′ new′ t →
-        LineOut out n kind (getD maj p 0) mnr new′ old old′ out′ n′ → length out′ ≡ length out → g′ ≡ g + t .scanline .passed → Sweeping out₀ kind ks maj mnr truth out′ c′ m′ old′ new′ n′ g′ (p + 1)
+    pub sweep-turn : {c′ m′ : List ℕ} {new′ old′ : List Bool} {t : Touched} {out′ : List ℤ} {i′ g′ : ℕ} → Turned n ks p g truth c c′ m′ new′ t →
+        LineOut out i kind (getD maj p 0) mnr new′ old old′ out′ i′ → length out′ ≡ length out → g′ ≡ g + t .scanline .passed → Sweeping n out₀ kind ks maj mnr truth out′ c′ m′ old′ new′ i′ g′ (p + 1)
     sweep-turn T L w e = record {
       state = state-turn (S .state) h T (L .told) (L .long) e;
       wide = w ∙ S .wide;
@@ -173,25 +190,25 @@ module _ {kind : ℕ} {ks maj mnr : List ℕ} {truth : List Bool} (ok : SweepOk 
       left = left-less (rw (lines-more kind ks maj mnr truth p h) at (S .left)) (L .emits _ (line-directs (S .state) h T));
     }
 
-  pub sweep-done : {out₀ out : List ℤ} {c m : List ℕ} {old new : List Bool} {n g p : ℕ} → Sweeping out₀ kind ks maj mnr truth out c m old new n g p → length maj ≤ p → Emitted out₀ 0 (swept kind ks maj mnr truth) out n × (n ≤ 134217728)
+  pub sweep-done : {out₀ out : List ℤ} {c m : List ℕ} {old new : List Bool} {n i g p : ℕ} → Sweeping n out₀ kind ks maj mnr truth out c m old new i g p → length maj ≤ p → Emitted out₀ 0 (swept kind ks maj mnr truth) out i × (i ≤ 134217728)
   sweep-done {p = p} S l = (left-none (rw (lines-none kind ks maj mnr truth p l) at (S .left)), omega (arith, S .few, S .state .inside, ok .some-places))
 
 -- ---- the weights
 
 module _ {ks ys xs : List ℕ} {truth : List Bool} (ok : SweepOk 0 ks ys xs truth) where
-  pub sum-start : {c m : List ℕ} {old new : List Bool} → Fresh ks truth c m old new → Summing ks ys xs truth c m old new 0 0 0
+  pub sum-start : {n : ℕ} {c m : List ℕ} {old new : List Bool} → Fresh n ks xs truth c m old new → Summing n ks ys xs truth c m old new 0 0 0
   unfolding swept
   sum-start F = record { state = state-start ok F; left = owed-all _ _ }
 
-  module _ {c m : List ℕ} {old new : List Bool} {sum g p : ℕ} (S : Summing ks ys xs truth c m old new sum g p) (h : p < length ys) where
-    pub sum-turn : {c′ m′ : List ℕ} {new′ old′ : List Bool} {t : Touched} {sum′ g′ : ℕ} → Turned ks p g truth c c′ m′ new′ t →
-        WeighOut sum (getD ys p 0) xs new′ old old′ sum′ → g′ ≡ g + t .scanline .passed → Summing ks ys xs truth c′ m′ old′ new′ sum′ g′ (p + 1)
+  module _ {c m : List ℕ} {old new : List Bool} {n sum g p : ℕ} (S : Summing n ks ys xs truth c m old new sum g p) (h : p < length ys) where
+    pub sum-turn : {c′ m′ : List ℕ} {new′ old′ : List Bool} {t : Touched} {sum′ g′ : ℕ} → Turned n ks p g truth c c′ m′ new′ t →
+        WeighOut sum (getD ys p 0) xs new′ old old′ sum′ → g′ ≡ g + t .scanline .passed → Summing n ks ys xs truth c′ m′ old′ new′ sum′ g′ (p + 1)
     sum-turn T L e = record {
       state = state-turn ok (S .state) h T (L .told) (L .long) e;
       left = owed-less (lineAtPlace 0 ks ys xs truth p) (linesFrom 0 ks ys xs truth (p + 1)) (rw (lines-more 0 ks ys xs truth p h) at (S .left)) (L .weighs _ (line-directs ok (S .state) h T));
     }
 
-  pub sum-done : {c m : List ℕ} {old new : List Bool} {sum g p : ℕ} → Summing ks ys xs truth c m old new sum g p → length ys ≤ p → Weighed 0 (swept 0 ks ys xs truth) sum
+  pub sum-done : {c m : List ℕ} {old new : List Bool} {n sum g p : ℕ} → Summing n ks ys xs truth c m old new sum g p → length ys ≤ p → Weighed 0 (swept 0 ks ys xs truth) sum
   sum-done {p = p} S l = owed-none (rw (lines-none 0 ks ys xs truth p l) at (S .left))
 
 -- the sum is the area
@@ -200,29 +217,35 @@ sum-area {ks} {ys} {xs} {truth} r h w = record { weighed = w; cells = λ es F. a
 
 -- ---- the arrays before the first key
 
-none-covers : (c : List ℕ) (r : ℕ) → ((l : ℕ) → l < 8 → rowAt c l r ≡ 8192) → ofBits 8 (coversRow c r) ≡ 0
+none-covers : (n : ℕ) (c : List ℕ) (r : ℕ) → ((l : ℕ) → l < 8 → rowAt n c l r ≡ 8192) → ofBits 8 (coversRow n c r) ≡ 0
 unfolding ofBits
-none-covers c r e = ofBits-same 8 (coversRow c r) (λ l. false) (λ l hl. covers-none (rowAt c l r) 8192 (e l hl))
+none-covers n c r e = ofBits-same 8 (coversRow n c r) (λ l. false) (λ l hl. covers-none (rowAt n c l r) 8192 (e l hl))
 
-pub fresh-rows : (ks : List ℕ) (truth : List Bool) → Fresh ks truth (replicate 65536 8192) (replicate 8192 0) (replicate 8192 false) (replicate 8192 false)
+fresh-n : (n : ℕ) (ks mnr : List ℕ) (truth : List Bool) → n ≤ 8192 → length mnr ≤ n → Fresh n ks mnr truth (replicate (8 * n) 8192) (replicate n 0) (replicate n false) (replicate n false)
 unfolding Rows holdsOf
-fresh-rows ks truth = record {
+fresh-n n ks mnr truth few enough = record {
+  few = few;
+  enough = enough;
   rows = λ l r hl hr. ap₂ (λ (a b : ℕ). a + b) (full l r hl hr) (passed-none ks 0 l r) ∙ sym (ap (λ (b : ℕ). 8192 + b) (passed-none ks 1 l r));
-  long = length-replicate {A = ℕ} 65536 8192;
-  long-covers = length-replicate {A = ℕ} 8192 0;
-  long-old = length-replicate 8192 false;
-  long-new = length-replicate 8192 false;
-  none = λ r hr. getD-replicate 8192 r false false hr;
-  none-new = λ r hr. getD-replicate 8192 r false false hr;
+  long = length-replicate {A = ℕ} (8 * n) 8192;
+  long-covers = length-replicate {A = ℕ} n 0;
+  long-old = length-replicate n false;
+  long-new = length-replicate n false;
+  none = λ r hr. getD-replicate n r false false hr;
+  none-new = λ r hr. getD-replicate n r false false hr;
   flags = λ e. record {
     covered = record {
-      long = length-replicate {A = ℕ} 8192 0;
-      each = λ r hr. getD-replicate {A = ℕ} 8192 r 0 0 hr ∙ sym (none-covers (replicate 65536 8192) r (λ l hl. full l r hl hr));
+      long = length-replicate {A = ℕ} n 0;
+      each = λ r hr. getD-replicate {A = ℕ} n r 0 0 hr ∙ sym (none-covers n (replicate (8 * n) 8192) r (λ l hl. full l r hl hr));
     };
-    long = length-replicate 8192 false;
-    told = λ r hr. getD-replicate 8192 r false false hr ∙ sym (ap (λ (m : ℕ). getD truth m false) (none-covers (replicate 65536 8192) r (λ l hl. full l r hl hr)) ∙ e);
+    long = length-replicate n false;
+    told = λ r hr. getD-replicate n r false false hr ∙ sym (ap (λ (m : ℕ). getD truth m false) (none-covers n (replicate (8 * n) 8192) r (λ l hl. full l r hl hr)) ∙ e);
   };
 }
   where
-    full : (l r : ℕ) → l < 8 → r < 8192 → rowAt (replicate 65536 8192) l r ≡ 8192
-    full l r hl hr = getD-replicate {A = ℕ} 65536 (l * 8192 + r) 8192 0 (omega arith)
+    full : (l r : ℕ) → l < 8 → r < n → rowAt n (replicate (8 * n) 8192) l r ≡ 8192
+    full l r hl hr = getD-replicate {A = ℕ} (8 * n) (l * n + r) 8192 0 (omega (arith, layer-fits n l hl))
+
+-- as many rows as there are covers
+pub fresh-rows : (n : ℕ) (ks mnr : List ℕ) (truth : List Bool) → n ≤ 8192 → length mnr ≤ n → Fresh (length (replicate {A = ℕ} n 0)) ks mnr truth (replicate (8 * n) 8192) (replicate n 0) (replicate n false) (replicate n false)
+fresh-rows n ks mnr truth few enough = rw (length-replicate {A = ℕ} n 0) (fresh-n n ks mnr truth few enough)

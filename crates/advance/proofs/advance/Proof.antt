@@ -4,16 +4,16 @@ use native.Mathlib.Omega.{arith}
 use mathlib.Core.Path.{sym, _∙_}
 use Prim.Native.Nat.{_-_}
 use lib.ListN.{length, getD}
-use Rattle.keys.specs.KeyLaws.{minor-less, layer-less}
+use Rattle.keys.specs.KeyLaws.{layer-less}
 use Rattle.advance.proofs.AdvanceLaws.{Advancing, advance-start, advance-fits, advance-order, advance-bounded, advance-turn, advance-done}
 use Rattle.advance.proofs.advance.Statement.{statement}
 use Rattle.advance.proofs.advance.Tie as tie
 
 abbrev Inv-loop : tie.InvT-loop
-Inv-loop keys p g c₀ lo hi₀ e₀ s₀ c hi e s = Advancing keys p g lo hi e s c₀ c
+Inv-loop keys p g n c₀ lo hi₀ e₀ s₀ c hi e s = Advancing n keys p g lo hi e s c₀ c
 
 abbrev μ-loop : tie.MeasureT-loop
-μ-loop keys p g c₀ lo hi₀ e₀ s₀ c hi e s = length keys - e
+μ-loop keys p g n c₀ lo hi₀ e₀ s₀ c hi e s = length keys - e
 
 first-requires : tie.Need-first-requires Inv-loop μ-loop
 first-requires c κs = search needs
@@ -47,8 +47,9 @@ spread-requires c κs =
     let o = c .before .before .before .before .before .before .before .before .before .before .before .before .pre in
     let l = c .before .before .before .before .before .before .before .loop in
     let mine = sym (c .before .before .before .before .major .ensures) ∙ c .before .before .before .if1 .left in
-    let m = minor-less (getD (c .before .before .before .before .before .before .before .before .before .before .before .before .args .keys .now) (l .e) 0) in
-    rw (c .before .before .minor .ensures) (l .inv .long, advance-order o (l .inv) (c .before .before .before .before .before .before .loop-test .taken) mine, omega (arith, m), advance-fits o (l .inv) _ (omega (arith, m)))
+    let h = c .before .before .before .before .before .before .loop-test .taken in
+    let m = o .in-rows (l .e) h in
+    rw (c .before .before .minor .ensures) (l .inv .long, o .rows-few, advance-order o (l .inv) h mine, omega (arith, m), advance-fits o (l .inv) _ (omega (arith, m)))
 
 layer-requires : tie.Need-layer-requires Inv-loop μ-loop
 layer-requires c κs = search needs

@@ -10,13 +10,13 @@ use Rattle.covering.proofs.cover.Statement.{statement}
 use Rattle.covering.proofs.cover.Tie as tie
 
 abbrev Inv-loop : tie.InvT-loop
-Inv-loop c covers₀ a b seen l₀ covers l = (l ≤ 8) × (length covers ≡ length covers₀) × ((ok : CoverOk c covers₀ a b (seen .wests)) → Covering c (ok .was) covers l)
+Inv-loop c n covers₀ a b seen l₀ covers l = (l ≤ 8) × (length covers ≡ length covers₀) × ((ok : CoverOk n c covers₀ a b (seen .wests)) → Covering n c (ok .was) covers l)
 
 abbrev μ-loop : tie.MeasureT-loop
-μ-loop c covers₀ a b seen l₀ covers l = 8 - l
+μ-loop c n covers₀ a b seen l₀ covers l = 8 - l
 
 loop-holds : tie.Need-loop-holds Inv-loop μ-loop
-loop-holds c = (omega arith, refl, λ ok. cover-start _ _ _ (ok .covered))
+loop-holds c = (omega arith, refl, λ ok. cover-start _ _ _ _ (ok .covered))
 
 mul-digits-seen : tie.Need-mul-digits-seen Inv-loop μ-loop
 mul-digits-seen c = search needs
@@ -27,7 +27,7 @@ element-copy-out-digits-seen c = search needs
 digits-seen-requires : tie.Need-digits-seen-requires Inv-loop μ-loop
 digits-seen-requires c κs =
     let o = c .before .before .before .before .before .before .pre in
-    (o .counts, c .before .before .before .loop .inv .2 o .long, c .before .before .loop-test .taken, o .order, o .top)
+    (o .counts, o .few, c .before .before .before .loop .inv .2 o .long, c .before .before .loop-test .taken, o .order, o .top)
 
 add-l : tie.Need-add-l Inv-loop μ-loop
 add-l c = search needs
@@ -42,7 +42,7 @@ same-length : tie.Need-same-length Inv-loop μ-loop
 same-length c = search needs
 
 returns : tie.Need-returns Inv-loop μ-loop
-returns c = cover-done _ _ _ _ (c .before .loop .inv .2 (c .before .before .before .before .pre)) (c .loop-test .left)
+returns c = cover-done _ _ _ _ _ (c .before .loop .inv .2 (c .before .before .before .before .pre)) (c .loop-test .left)
 
 pub cover-spec : {M : Type 1} → statement M
 cover-spec =

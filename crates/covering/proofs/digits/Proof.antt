@@ -1,24 +1,29 @@
 -- `covering::digits` meets its contract. The loop: the rows below r are done. Assumes nothing.
 use borrow.Author.Needs.{needs}
 use native.Mathlib.Omega.{arith}
-use Prim.Native.Nat.{_-_, _≤_}
+use Prim.Native.Nat.{_+_, _*_, _-_, _≤_}
 use Rattle.basics.specs.Tests.{bit-le}
+use Rattle.rows.specs.Rows.{layer-fits}
 use Rattle.covering.specs.Cover.{coversRow, Digits}
 use Rattle.covering.proofs.Passes.{pass-start, digits-turn, pass-done}
 use Rattle.covering.proofs.digits.Statement.{statement}
 use Rattle.covering.proofs.digits.Tie as tie
 
 abbrev Inv-loop : tie.InvT-loop
-Inv-loop c covers₀ layer a b base r₀ covers r = (a ≤ r) × (r ≤ b) × Digits layer a r c covers₀ covers
+Inv-loop c n covers₀ layer a b base r₀ covers r = (a ≤ r) × (r ≤ b) × (layer * n + n ≤ 8 * n) × Digits n layer a r c covers₀ covers
 
 abbrev μ-loop : tie.MeasureT-loop
-μ-loop c covers₀ layer a b base r₀ covers r = b - r
+μ-loop c n covers₀ layer a b base r₀ covers r = b - r
 
 mul-base : tie.Need-mul-base Inv-loop μ-loop
-mul-base c = search needs
+mul-base c =
+    let b = c .before .before in
+    omega (arith, layer-fits (b .args .n) (b .args .layer) (b .pre .3), b .pre .1)
 
 loop-holds : tie.Need-loop-holds Inv-loop μ-loop
-loop-holds c = (omega arith, c .before .before .pre .3, pass-start _ _ _ _)
+loop-holds c =
+    let q = c .before .before .pre in
+    (omega arith, q .4, layer-fits _ _ (q .3), pass-start _ _ _ _)
 
 slice-read-turned : tie.Need-slice-read-turned Inv-loop μ-loop
 slice-read-turned c = search needs
@@ -36,7 +41,7 @@ covering-requires : tie.Need-covering-requires Inv-loop μ-loop
 covering-requires c κs = search needs
 
 turned-requires : tie.Need-turned-requires Inv-loop μ-loop
-turned-requires c κs = (c .before .before .before .before .before .before .before .pre .2, omega (arith, c .covering .ensures, bit-le (coversRow (c .before .before .before .before .before .before .before .args .c .now) (c .before .before .before .before .loop .r) (c .before .before .before .before .before .before .before .args .layer))))
+turned-requires c κs = (c .before .before .before .before .before .before .before .pre .3, omega (arith, c .covering .ensures, bit-le (coversRow (c .before .before .before .before .before .before .before .args .n) (c .before .before .before .before .before .before .before .args .c .now) (c .before .before .before .before .loop .r) (c .before .before .before .before .before .before .before .args .layer))))
 
 slice-write-covers : tie.Need-slice-write-covers Inv-loop μ-loop
 slice-write-covers c = search needs
@@ -51,13 +56,13 @@ loop-again : tie.Need-loop-again Inv-loop μ-loop
 loop-again c =
     let a = c .before .before .before .before .before .before .before .before .args in
     let i = c .before .before .before .before .before .loop .inv in
-    (omega arith, omega arith, digits-turn (a .layer) _ _ (a .c .now) (a .covers .now) _ _ _ (i .2) (i .0) (search needs) (c .before .covering .ensures) (c .turned .ensures))
+    (omega arith, omega arith, i .2, digits-turn (a .n) (a .layer) _ _ (a .c .now) (a .covers .now) _ _ _ (i .3) (i .0) (search needs) (c .before .covering .ensures) (c .turned .ensures))
 
 same-length : tie.Need-same-length Inv-loop μ-loop
 same-length c = search needs
 
 returns : tie.Need-returns Inv-loop μ-loop
-returns c = let i = c .before .loop .inv in pass-done _ _ _ _ _ _ _ (i .2) (omega (arith, c .loop-test .left))
+returns c = let i = c .before .loop .inv in pass-done _ _ _ _ _ _ _ (i .3) (omega (arith, c .loop-test .left))
 
 pub digits-spec : {M : Type 1} → statement M
 digits-spec =

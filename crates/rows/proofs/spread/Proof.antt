@@ -6,16 +6,16 @@ use Rattle.rows.proofs.spread.Statement.{statement}
 use Rattle.rows.proofs.spread.Tie as tie
 
 abbrev Inv-loop : tie.InvT-loop
-Inv-loop c₀ a b d l₀ c l = Spreading a b l d c₀ c
+Inv-loop c₀ n a b d l₀ c l = Spreading n a b l d c₀ c
 
 abbrev μ-loop : tie.MeasureT-loop
-μ-loop c₀ a b d l₀ c l = 8 - l
+μ-loop c₀ n a b d l₀ c l = 8 - l
 
 returns : tie.Need-returns Inv-loop μ-loop
-returns c = spread-none _ _ _ _ (c .before .before .pre .0) (c .if1 .taken)
+returns c = spread-none _ _ _ _ _ (c .before .before .pre .0) (c .if1 .taken)
 
 loop-holds : tie.Need-loop-holds Inv-loop μ-loop
-loop-holds c = spread-start _ _ _ _ (c .before .before .pre .0)
+loop-holds c = spread-start _ _ _ _ _ (c .before .before .pre .0)
 
 mul-shift-uneven : tie.Need-mul-shift-uneven Inv-loop μ-loop
 mul-shift-uneven c = search needs
@@ -34,7 +34,7 @@ shift-uneven-requires c κs =
     let q = c .before .before .before .before .before .before .before .pre in
     let b = c .before .before .before .before in
     let h = c .before .before .before .loop-test .taken in
-    (b .loop .inv .long, h, q .1, q .2, spread-fits (b .loop .inv) h (q .2) (q .3))
+    (b .loop .inv .long, q .1, h, q .2, q .3, spread-fits (b .loop .inv) h (q .3) (q .4))
 
 add-l : tie.Need-add-l Inv-loop μ-loop
 add-l c = search needs
@@ -44,7 +44,7 @@ loop-less c = search needs
 
 loop-again : tie.Need-loop-again Inv-loop μ-loop
 loop-again c =
-    spread-turn (c .before .before .before .before .before .before .before .loop .inv) (c .before .before .before .before .before .before .loop-test .taken) (c .before .before .before .before .before .before .before .before .before .before .pre .2) (c .before .before .shift-uneven .ensures)
+    spread-turn (c .before .before .before .before .before .before .before .loop .inv) (c .before .before .before .before .before .before .loop-test .taken) (c .before .before .before .before .before .before .before .before .before .before .pre .3) (c .before .before .shift-uneven .ensures)
 
 same-length : tie.Need-same-length Inv-loop μ-loop
 same-length c = search needs

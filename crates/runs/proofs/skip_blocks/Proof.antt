@@ -25,7 +25,8 @@ add-loop c = search needs
 quiet-requires : tie.Need-quiet-requires Inv-loop μ-loop
 quiet-requires c κs =
     let o = c .before .before .before .before .pre in
-    record { long-old = o .long-old; long-new = o .long-new; order = omega arith; top = omega (arith, o .top, c .loop-test .taken) }
+    let h = c .loop-test .taken in
+    record { long-old = omega (arith, o .long-old, h); long-new = omega (arith, o .long-new, h); order = omega arith; top = omega (arith, o .top, h) }
 
 returns : tie.Need-returns Inv-loop μ-loop
 returns c = c .before .before .before .loop .inv

@@ -8,10 +8,10 @@ use Rattle.sweep.proofs.record_places.Statement.{statement}
 use Rattle.sweep.proofs.record_places.Tie as tie
 
 abbrev Inv-loop : tie.InvT-loop
-Inv-loop out₀ kind keys maj mnr truth c₀ covers₀ old₀ new₀ n₀ g₀ p₀ out c covers old new n g p = Sweeping out₀ kind keys maj mnr truth out c covers old new n g p
+Inv-loop out₀ kind keys maj mnr truth c₀ covers₀ old₀ new₀ rows n₀ g₀ p₀ out c covers old new n g p = Sweeping rows out₀ kind keys maj mnr truth out c covers old new n g p
 
 abbrev μ-loop : tie.MeasureT-loop
-μ-loop out₀ kind keys maj mnr truth c₀ covers₀ old₀ new₀ n₀ g₀ p₀ out c covers old new n g p = length maj - p
+μ-loop out₀ kind keys maj mnr truth c₀ covers₀ old₀ new₀ rows n₀ g₀ p₀ out c covers old new n g p = length maj - p
 
 loop-holds : tie.Need-loop-holds Inv-loop μ-loop
 loop-holds c = sweep-start (c .before .before .before .before .before .before .before .before .pre .0) _ (c .before .before .before .before .before .before .before .before .pre .1)

@@ -8,10 +8,10 @@ use Rattle.sweep.proofs.weigh_places.Statement.{statement}
 use Rattle.sweep.proofs.weigh_places.Tie as tie
 
 abbrev Inv-loop : tie.InvT-loop
-Inv-loop keys ys xs truth c₀ covers₀ old₀ new₀ sum₀ g₀ p₀ c covers old new sum g p = Summing keys ys xs truth c covers old new sum g p
+Inv-loop keys ys xs truth c₀ covers₀ old₀ new₀ rows sum₀ g₀ p₀ c covers old new sum g p = Summing rows keys ys xs truth c covers old new sum g p
 
 abbrev μ-loop : tie.MeasureT-loop
-μ-loop keys ys xs truth c₀ covers₀ old₀ new₀ sum₀ g₀ p₀ c covers old new sum g p = length ys - p
+μ-loop keys ys xs truth c₀ covers₀ old₀ new₀ rows sum₀ g₀ p₀ c covers old new sum g p = length ys - p
 
 loop-holds : tie.Need-loop-holds Inv-loop μ-loop
 loop-holds c = sum-start (c .before .before .before .before .before .before .before .before .pre .0) (c .before .before .before .before .before .before .before .before .pre .1)

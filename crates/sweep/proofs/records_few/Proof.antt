@@ -1,8 +1,9 @@
--- `sweep::records` meets its contract. Assumes nothing.
+-- `sweep::records_few` meets its contract. Assumes nothing.
 use Rattle.sweep.proofs.SweepLaws.{fresh-rows}
 use borrow.Author.Needs.{needs}
-use Rattle.sweep.proofs.records.Statement.{statement}
-use Rattle.sweep.proofs.records.Tie as tie
+use native.Mathlib.Omega.{arith}
+use Rattle.sweep.proofs.records_few.Statement.{statement}
+use Rattle.sweep.proofs.records_few.Tie as tie
 
 slice-aggregate-record-places : tie.Need-slice-aggregate-record-places
 slice-aggregate-record-places c = search needs
@@ -17,7 +18,7 @@ slice-aggregate-record-places-4 : tie.Need-slice-aggregate-record-places-4
 slice-aggregate-record-places-4 c = search needs
 
 record-places-requires : tie.Need-record-places-requires
-record-places-requires c κs = (c .before .before .before .before .before .before .before .before .before .pre, fresh-rows _ _)
+record-places-requires c κs = let q = c .before .before .before .before .before .before .before .before .before .pre in (q .1, fresh-rows 1024 _ _ _ (omega arith) (q .0))
 
 same-length : tie.Need-same-length
 same-length c = search needs
@@ -25,8 +26,8 @@ same-length c = search needs
 returns : tie.Need-returns
 returns c = search needs
 
-pub records-spec : {M : Type 1} → statement M
-records-spec =
+pub records-few-spec : {M : Type 1} → statement M
+records-few-spec =
     tie.close
     (tie.spec
     slice-aggregate-record-places
