@@ -5,6 +5,7 @@ use Prim.Native.Nat.{_-_, _≤_}
 use lib.ListN.{length, take}
 use lib.Seq.{take-all}
 use borrow.Author.Needs.{needs}
+use Rattle.meaning.specs.Edges.{number}
 use Rattle.meaning.specs.Expression.{often}
 use Rattle.expression_laws.specs.Depth.{often-passed, often-found}
 use Rattle.expression.proofs.stands.Statement.{statement}
@@ -17,7 +18,7 @@ abbrev μ-loop : tie.MeasureT-loop
 μ-loop text b i₀ i = length text - i
 
 loop-holds : tie.Need-loop-holds Inv-loop μ-loop
-unfolding often
+unfolding often number
 loop-holds c = (search needs, refl)
 
 shared-slice-read-if1 : tie.Need-shared-slice-read-if1 Inv-loop μ-loop
