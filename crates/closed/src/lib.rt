@@ -1,13 +1,19 @@
 // Whether an edge list is closed: its corners are put in order by x and walked once.
 use balance::Balance;
 ghost use mathlib.Core.Path.{_≡_};
-ghost use Prim.Native.Nat.{_/_};
+ghost use Prim.Native.Nat.{_/_, _≤_};
 ghost use lib.ListN.{length};
 ghost use Rattle.meaning.specs.Numbers.{limit};
 ghost use Rattle.meaning.specs.Edges.{edgesOf};
 ghost use Rattle.basics.specs.Sound.{SoundList};
 ghost use Rattle.closed.specs.Closing.{Weighed};
 ghost use Rattle.closed.specs.Room.{Lent};
+
+// The most edges that there are.
+const MOST: usize = 4096;
+
+// The edges that there is room for where these are enough: a small call then has less to make ready.
+const FEW: usize = 512;
 
 // Whether a sound list is closed, or the least place where it is not, with room to work in.
 fn weigh_in(
@@ -31,22 +37,23 @@ fn weigh_in(
     balance::weigh(xs, tags, ws, room, ds)
 }
 
-// Whether a sound list is closed, or the least place where it is not.
-pub fn weigh(edges: &[i32]) -> Balance
+// Whether a sound list of few edges is closed.
+fn weigh_few(edges: &[i32]) -> Balance
+    requires { ⌜ length (now edges) / 4 ≤ 512 ⌝ }
     requires { ⌜ SoundList 7 limit (now edges) ⌝ }
     ensures { λ r. ⌜ Weighed (edgesOf (now (edges .entry))) r ⌝ }
 {
     let n = edges.len() / 4;
     let m = n + n;
-    let mut ls = [0u32; 4096];
-    let mut ys = [0u32; 4096];
-    let mut fs = [0u32; 4096];
-    let mut ts = [0u32; 4096];
-    let mut xs = [0u32; 8192];
-    let mut tags = [0u16; 8192];
-    let mut ws = [0u64; 8192];
-    let mut room = [0u64; 8192];
-    let mut ds = [0u16; 8192];
+    let mut ls = [0u32; FEW];
+    let mut ys = [0u32; FEW];
+    let mut fs = [0u32; FEW];
+    let mut ts = [0u32; FEW];
+    let mut xs = [0u32; 2 * FEW];
+    let mut tags = [0u16; 2 * FEW];
+    let mut ws = [0u64; 2 * FEW];
+    let mut room = [0u64; 2 * FEW];
+    let mut ds = [0u16; 2 * FEW];
     weigh_in(
         edges,
         &mut ls[0..n],
@@ -59,4 +66,45 @@ pub fn weigh(edges: &[i32]) -> Balance
         &mut room[0..m],
         &mut ds[0..m],
     )
+}
+
+// And one of more.
+fn weigh_many(edges: &[i32]) -> Balance
+    requires { ⌜ SoundList 7 limit (now edges) ⌝ }
+    ensures { λ r. ⌜ Weighed (edgesOf (now (edges .entry))) r ⌝ }
+{
+    let n = edges.len() / 4;
+    let m = n + n;
+    let mut ls = [0u32; MOST];
+    let mut ys = [0u32; MOST];
+    let mut fs = [0u32; MOST];
+    let mut ts = [0u32; MOST];
+    let mut xs = [0u32; 2 * MOST];
+    let mut tags = [0u16; 2 * MOST];
+    let mut ws = [0u64; 2 * MOST];
+    let mut room = [0u64; 2 * MOST];
+    let mut ds = [0u16; 2 * MOST];
+    weigh_in(
+        edges,
+        &mut ls[0..n],
+        &mut ys[0..n],
+        &mut fs[0..n],
+        &mut ts[0..n],
+        &mut xs[0..m],
+        &mut tags[0..m],
+        &mut ws[0..m],
+        &mut room[0..m],
+        &mut ds[0..m],
+    )
+}
+
+// Whether a sound list is closed, or the least place where it is not.
+pub fn weigh(edges: &[i32]) -> Balance
+    requires { ⌜ SoundList 7 limit (now edges) ⌝ }
+    ensures { λ r. ⌜ Weighed (edgesOf (now (edges .entry))) r ⌝ }
+{
+    if edges.len() / 4 <= FEW {
+        return weigh_few(edges);
+    }
+    weigh_many(edges)
 }

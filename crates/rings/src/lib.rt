@@ -140,6 +140,24 @@ pub fn judged(s: State, v: u64, at: usize, next: usize) -> Reading
     Reading::Refused(number, at)
 }
 
+fn after_x(s: State, v: u64) -> State
+    requires { ⌜ s .due ≡ Due.X ⌝ }
+    ensures { λ r. ⌜ r ≡ nextOf s v ⌝ }
+{
+    let fx = first_of(s.fresh, v, s.fx);
+    State {
+        due: Due::Y,
+        layer: s.layer,
+        more: s.more,
+        room: s.room,
+        fresh: s.fresh,
+        px: v,
+        py: s.py,
+        fx: fx,
+        fy: s.fy,
+    }
+}
+
 fn after_y(s: State, v: u64) -> State
     requires { ⌜ s .due ≡ Due.Y ⌝ }
     ensures { λ r. ⌜ r ≡ nextOf s v ⌝ }
@@ -191,20 +209,7 @@ pub fn after(s: State, v: u64) -> State
             fx: s.fx,
             fy: s.fy,
         },
-        Due::X => {
-            let fx = first_of(s.fresh, v, s.fx);
-            State {
-                due: Due::Y,
-                layer: s.layer,
-                more: s.more,
-                room: s.room,
-                fresh: s.fresh,
-                px: v,
-                py: s.py,
-                fx: fx,
-                fy: s.fy,
-            }
-        }
+        Due::X => after_x(s, v),
         Due::Y => after_y(s, v),
     }
 }

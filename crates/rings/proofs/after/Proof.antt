@@ -11,17 +11,17 @@ enum-told c = search needs
 enum-told-2 : tie.Need-enum-told-2
 enum-told-2 c = search needs
 
-sub-t8 : tie.Need-sub-t8
-sub-t8 c = count-bounds _ _ (c .before .before .pre) (c .enum-told2 .given .1) .0
+sub-t7 : tie.Need-sub-t7
+sub-t7 c = count-bounds _ _ (c .before .before .pre) (c .enum-told2 .given .1) .0
 
-sub-t9 : tie.Need-sub-t9
-sub-t9 c = count-bounds _ _ (c .before .before .before .pre) (c .before .enum-told2 .given .1) .1
+sub-t8 : tie.Need-sub-t8
+sub-t8 c = count-bounds _ _ (c .before .before .before .pre) (c .before .enum-told2 .given .1) .1
 
 enum-told-3 : tie.Need-enum-told-3
 enum-told-3 c = search needs
 
-first-of-requires : tie.Need-first-of-requires
-first-of-requires c κs = search needs
+after-x-requires : tie.Need-after-x-requires
+after-x-requires c κs = search needs
 
 enum-told-4 : tie.Need-enum-told-4
 enum-told-4 c = search needs
@@ -38,8 +38,7 @@ unfolding nextOf
 returns-2 c = rw (c .before .enum-told2 .given .1)
 
 returns-3 : tie.Need-returns-3
-unfolding nextOf
-returns-3 c = rw (c .before .enum-told3 .given .1, c .first-of .ensures)
+returns-3 c = c .after-x .ensures
 
 returns-4 : tie.Need-returns-4
 returns-4 c = c .after-y .ensures
@@ -50,10 +49,10 @@ after-spec =
     (tie.spec
     enum-told
     enum-told-2
+    sub-t7
     sub-t8
-    sub-t9
     enum-told-3
-    first-of-requires
+    after-x-requires
     enum-told-4
     after-y-requires
     returns

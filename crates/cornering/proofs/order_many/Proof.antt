@@ -1,11 +1,9 @@
--- `cornering::order` meets its contract: it lends parts of fresh arrays. Assumes nothing.
-use Prim.Native.Nat.{_+_, _≤_}
+-- `cornering::order_many` meets its contract: it lends parts of fresh arrays. Assumes nothing.
 use native.Mathlib.Omega.{arith}
-use lib.ListN.{length}
-use Rattle.sums.specs.Filling.{fresh-part}
+use Rattle.cornering.proofs.Lending.{lent}
 use borrow.Author.Needs.{needs}
-use Rattle.cornering.proofs.order.Statement.{statement}
-use Rattle.cornering.proofs.order.Tie as tie
+use Rattle.cornering.proofs.order_many.Statement.{statement}
+use Rattle.cornering.proofs.order_many.Tie as tie
 
 add-m : tie.Need-add-m
 add-m c = search needs
@@ -103,28 +101,7 @@ part-cs-end c = omega (arith, c .before .before .before .before .before .before 
 order-in-requires : tie.Need-order-in-requires
 order-in-requires c κs =
     let s = c .before .before .before .before .before .before .before .before .before .before .before .before .before .before .before .before .before .before .before .before .before .before in
-    let n = length (s .args .ls .now) in
-    let few : n ≤ 4096 = s .pre .0 .few in
-    let one = fresh-part n 4096 few in
-    let two = fresh-part (n + n) 8192 (omega arith) in (
-      s .pre .0,
-      (
-        s .pre .1,
-        (
-          (two, two),
-          record {
-            wx-long = two;
-            wy-long = one;
-            room-long = two;
-            ds-long = two;
-            rx-long = two;
-            ry-long = one;
-            both-long = two;
-            cs-long = two;
-          },
-        ),
-      ),
-    )
+    (s .pre .0, (s .pre .1, lent _ 4096 (s .pre .0 .few)))
 
 same-length : tie.Need-same-length
 same-length c = c .before .before .before .before .before .before .before .before .before .before .before .before .before .before .before .before .before .before .order-in .kept .1 .1 .1 .1 .0
@@ -141,8 +118,8 @@ same-length-4 c = c .before .before .before .before .before .before .before .bef
 returns : tie.Need-returns
 returns c = search needs
 
-pub order-spec : {M : Type 1} → statement M
-order-spec =
+pub order-many-spec : {M : Type 1} → statement M
+order-many-spec =
     tie.close
     (tie.spec
     add-m

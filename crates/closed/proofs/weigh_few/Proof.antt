@@ -1,11 +1,9 @@
--- `closed::weigh` meets its contract: it lends parts of fresh arrays. Assumes nothing.
-use Prim.Native.Nat.{_+_, _/_, _≤_}
+-- `closed::weigh_few` meets its contract: it lends parts of fresh arrays. Assumes nothing.
 use native.Mathlib.Omega.{arith}
-use lib.ListN.{length}
-use Rattle.sums.specs.Filling.{fresh-part}
+use Rattle.closed.specs.Room.{lent}
 use borrow.Author.Needs.{needs}
-use Rattle.closed.proofs.weigh.Statement.{statement}
-use Rattle.closed.proofs.weigh.Tie as tie
+use Rattle.closed.proofs.weigh_few.Statement.{statement}
+use Rattle.closed.proofs.weigh_few.Tie as tie
 
 add-m : tie.Need-add-m
 add-m c = search needs
@@ -89,34 +87,18 @@ part-ds-start : tie.Need-part-ds-start
 part-ds-start c = search needs
 
 part-ds-end : tie.Need-part-ds-end
-part-ds-end c = omega (arith, c .before .before .before .before .before .before .before .before .pre .few)
+part-ds-end c = omega (arith, c .before .before .before .before .before .before .before .before .pre .0)
 
 weigh-in-requires : tie.Need-weigh-in-requires
 weigh-in-requires c κs =
     let s = c .before .before .before .before .before .before .before .before .before in
-    let n = length (s .args .edges .now) / 4 in
-    let few : n ≤ 4096 = s .pre .few in
-    let one = fresh-part n 4096 few in
-    let two = fresh-part (n + n) 8192 (omega arith) in (
-      s .pre,
-      record {
-        ls-long = one;
-        ys-long = one;
-        fs-long = one;
-        ts-long = one;
-        xs-long = two;
-        tags-long = two;
-        ws-long = two;
-        room-long = two;
-        ds-long = two;
-      },
-    )
+    (s .pre .1, lent _ 512 (s .pre .0))
 
 returns : tie.Need-returns
 returns c = search needs
 
-pub weigh-spec : {M : Type 1} → statement M
-weigh-spec =
+pub weigh-few-spec : {M : Type 1} → statement M
+weigh-few-spec =
     tie.close
     (tie.spec
     add-m

@@ -1,0 +1,2 @@
+-- Laws of the room that is lent.
+pub mod Lending
