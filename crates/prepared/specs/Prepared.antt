@@ -2,6 +2,7 @@
 --
 --   Prepared es vx vy across up r   for the edges es, r has the lengths of what stands at the front of each slice; with a table to which es are sound, it is
 --                                   what the sweep is fed with
+--   no-more, few                    the kept edges are no more than the list has, at most 4,096
 --   columned                        the columns of kept edges, as they are lent to be ordered
 --   front-part                      what was lent from the front stands there when it is back
 --   prepared                        so the parts, when they are back, are prepared
@@ -9,7 +10,7 @@
 use mathlib.Core.Path.{_≡_, refl, sym, ap, _∙_}
 use mathlib.Core.Bool.{Bool}
 use mathlib.Core.List.{List, [], _∷_, _++_, map}
-use Prim.Native.Nat.{ℕ, _+_, _-_, _≤_}
+use Prim.Native.Nat.{ℕ, _+_, _-_, _/_, _≤_}
 use native.Mathlib.Omega.{arith}
 use lib.IntN.{ℤ}
 use lib.ListN.{length, take, drop, length-map}
@@ -46,8 +47,11 @@ module _ (used : ℕ) (ns : List ℤ) (S : SoundList 7 limit ns) (ls ys fs ts ls
   abbrev es : List (Edge ℕ)
   es = keptSteps used ns
 
+  pub no-more : n ≤ length ns / 4
+  no-more = omega (arith, C .number, length-map (kept used (edgesOf ns)) (lifted limit), kept-length used (edgesOf ns), edges-length ns)
+
   pub few : n ≤ 4096
-  few = omega (arith, C .number, length-map (kept used (edgesOf ns)) (lifted limit), kept-length used (edgesOf ns), edges-length ns, S .few)
+  few = omega (arith, no-more, S .few)
 
   pub fronts : (take (n - 0) ls′ ≡ map layerOf es) × ((take (n - 0) ys′ ≡ map yOf es) × ((take (n - 0) fs′ ≡ map fromOf es) × (take (n - 0) ts′ ≡ map toOf es)))
   fronts = (
