@@ -17,7 +17,9 @@ pub enum Written {
 // A call of so few corners, and the numbers of records for which it has room to gather them before it is known whether the caller has; and those of
 // any other call. Up to these the sweeps are made once, beyond them twice.
 const FEW_CORNERS: usize = 1024;
+
 const FEW: usize = 8192;
+
 const MANY: usize = 65536;
 
 // How many records of each kind there are.
