@@ -1,4 +1,5 @@
-// The calls run and area. Cost: the sort of the edges' corners, and the rows touched by each place's corners, one sweep for each kind of record.
+// The calls run and area. Cost: the sort of the edges' corners, and the rows touched by each place's corners, in one sweep for each kind of record; a run whose
+// records are too many to be gathered sweeps twice.
 use answers::Answer;
 use edges::Judged;
 use writing::Written;
