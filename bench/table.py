@@ -27,5 +27,5 @@ for (layout, op), r in rows.items():
         if (exact and r[p][2] != cells) or abs(r[p][2] - cells) > cells * 1e-12 + 1:
             wrong += 1
             print("AREA DIFFERS", layout, op, p, r[p][2], cells)
-    print("| %s | %s | %.3f | %.3f | %s |" % (layout, op, run, area, " | ".join(ratios)))
+    print("| %s | %s | %.4f | %.4f | %s |" % (layout, op, run, area, " | ".join(ratios)))
 print("\ngreatest ratio: " + ", ".join("%s %.2f" % w for w in worst.items()) + "; areas that differ: %d" % wrong)

@@ -1,8 +1,10 @@
 """Document 01, cell by cell: an independent account of the program, written from the document alone.
 
-Every cell's status is counted from the edges as the definition says; there is no sweep, no sorting of corners and no
-rank. `answer(data)` gives what the program prints for the bytes `data` on its standard input.
+Every cell's status is counted from the edges that span its column, as the definition says: no row of counts is carried from line to line and no record
+is made from another. `answer(data)` gives what the program prints for the bytes `data` on its standard input; `run_call` and `area_call` what the calls answer.
 """
+
+import collections
 
 LIMIT = 2**30
 EDGES = 4096
@@ -156,16 +158,16 @@ def read_expression(text):
 # ---- cells and records
 
 
-def covering(edges, i, j):
-    """The layers that cover cell (i, j): west edges less east edges that span column i and have y at most j, at least 1."""
-    count = {}
-    for layer, y, start, end in edges:
-        if y <= j:
-            if end <= i < start:
-                count[layer] = count.get(layer, 0) + 1
-            elif start <= i < end:
-                count[layer] = count.get(layer, 0) - 1
-    return frozenset(layer for layer, n in count.items() if n >= 1)
+def covering(edges, i, js):
+    """For each row of the rising list js, the layers that cover cell (i, j): west edges less east edges that span column i and have y at most j, at least 1."""
+    spanning = sorted((y, layer, 1 if end < start else -1) for layer, y, start, end in edges if min(start, end) <= i < max(start, end))
+    count, at = {}, 0
+    for j in js:
+        while at < len(spanning) and spanning[at][0] <= j:
+            _, layer, way = spanning[at]
+            count[layer] = count.get(layer, 0) + way
+            at += 1
+        yield frozenset(layer for layer, n in count.items() if n >= 1)
 
 
 def small_cells(edges):
@@ -204,14 +206,56 @@ def run(edges, holds):
     inside = {}
     area = 0
     for i in range(len(xs) - 1):
-        for j in range(len(ys) - 1):
-            if holds(covering(edges, xs[i], ys[j])):
+        for j, covers in enumerate(covering(edges, xs[i], ys[:-1])):
+            if holds(covers):
                 inside[i, j] = True
                 area += (xs[i + 1] - xs[i]) * (ys[j + 1] - ys[j])
     cell = lambda i, j: (i, j) in inside
     level = joined(0, ys, xs, lambda p, k: (cell(k, p - 1), cell(k, p)))
     upright = joined(1, xs, ys, lambda p, k: (cell(p, k), cell(p - 1, k)))
     return level + upright, area
+
+
+def read_edges(numbers):
+    """The edges of an edge list, or its refusal."""
+    if len(numbers) % 4:
+        raise Refusal(1, 0)
+    edges = [tuple(numbers[i : i + 4]) for i in range(0, len(numbers), 4)]
+    if len(edges) > EDGES:
+        raise Refusal(2, 0)
+    for k, (layer, y, start, end) in enumerate(edges):
+        if not 0 <= layer <= 7 or max(abs(y), abs(start), abs(end)) > LIMIT:
+            raise Refusal(3, k)
+        if start == end:
+            raise Refusal(4, k)
+    ends = collections.Counter()
+    for layer, _, start, end in edges:
+        ends[layer, start] += 1
+        ends[layer, end] -= 1
+    columns = collections.Counter()
+    for (layer, x), n in sorted(ends.items()):
+        columns[layer] += n
+        if columns[layer]:
+            raise Refusal(5, 0)
+    return edges
+
+
+def run_call(numbers, text, room):
+    """What the run answers, and the numbers that it writes at the front of a buffer of this many."""
+    try:
+        records, _ = run(read_edges(numbers), read_expression(text))
+    except Refusal as r:
+        return (r.number, r.value), []
+    if room < 4 * len(records):
+        return (10, len(records)), []
+    return (0, len(records)), [n for record in records for n in record]
+
+
+def area_call(numbers, text):
+    try:
+        return 0, run(read_edges(numbers), read_expression(text))[1]
+    except Refusal as r:
+        return r.number, r.value
 
 
 def answer(data):

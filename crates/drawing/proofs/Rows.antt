@@ -11,7 +11,7 @@ use lib.IntN.{ℤ, natAbs, _-ℤ_}
 use Rattle.meaning.specs.Numbers.{pick}
 use Rattle.meaning.specs.Answers.{Answer, accepted, out-of-range, from-equals-to, view-out-of-range, offset-too-large}
 use Rattle.meaning.specs.Drawn.{viewInRange, recordInRange, isLevel, allDrawn}
-use Rattle.basics.specs.Tables.{not-given}
+use Rattle.basic_laws.specs.Tables.{not-given}
 use Rattle.drawing.specs.Drawing.{answerOf, refuses, ExactFloats, ByOffsets, Drawing}
 use Rattle.drawing.specs.declared.Floats.{Floats}
 use Rattle.drawing.specs.declared.Drawn.{Drawn}

@@ -16,7 +16,7 @@ use mir.Syntax.{w32, w64}
 use mir.Val.{SFits}
 use Rattle.meaning.specs.Numbers.{zeroTo, limit, inRange}
 use Rattle.meaning.specs.Drawn.{viewInRange, farthest, allDrawn}
-use Rattle.basics.specs.Tests.{and-left, and-right}
+use Rattle.basic_laws.specs.Tests.{and-left, and-right}
 
 pub up-to-in : (n : ℕ) (x z : ℤ) → x ≡ z → leZ (pos 0) x ≡ true → leZ x (pos n) ≡ zeroTo n z
 up-to-in n x z e h = subst (λ (y : ℤ). leZ x (pos n) ≡ zeroTo n y) e (go x h)

@@ -7,7 +7,7 @@ use lib.IntN.{ℤ, natAbs}
 use Rattle.meaning.specs.Numbers.{pick}
 use Rattle.meaning.specs.Answers.{Answer, answer}
 use Rattle.meaning.specs.Drawn.{viewInRange, recordInRange, isLevel, placeOffset, endOffset, allDrawn}
-use Rattle.basics.specs.Tables.{Single, one-answer}
+use Rattle.basic_laws.specs.Tables.{Single, one-answer}
 use Rattle.drawing.specs.Drawing.{answerOf, refuses, rows, ExactFloats, Shown, Drawing}
 use Rattle.drawing.specs.declared.Floats.{Floats}
 use Rattle.drawing.specs.declared.Drawn.{Drawn}

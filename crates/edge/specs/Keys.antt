@@ -16,19 +16,19 @@ use mathlib.Core.List.{List}
 use borrow.Author.Tests.{leb-true, le-leb}
 use Rattle.meaning.specs.Numbers.{limit, inRange}
 use Rattle.meaning.specs.Edges.{soundEdge}
-use Rattle.basics.specs.Tests.{and-on, leb-same}
-use Rattle.basics.specs.Signed.{keyOf, le-key}
-use Rattle.basics.specs.Steps.{lift}
-use Rattle.basics.specs.Fours.{part, edgeAt}
-use Rattle.basics.specs.Sound.{SoundParts, sound-parts}
+use Rattle.basic_laws.specs.Tests.{and-on, leb-same}
+use Rattle.basic_laws.specs.Signed.{keyOf, le-key}
+use Rattle.basic_laws.specs.Steps.{lift}
+use Rattle.basic_laws.specs.Fours.{part, edgeAt}
+use Rattle.basic_laws.specs.Sound.{SoundParts, sound-parts}
 
 pub record Keyed (z : ℤ) (r : ℕ) : Type 0 where
   pub is : r ≡ keyOf z
   pub word : mag z < 2147483648
 
-pub layer-key : (z : ℤ) (top r : ℕ) → top < 2147483648 → Keyed z r → (leb 2147483648 r && leb r (top + 2147483648)) ≡ (leZ (pos 0) z && leZ z (pos top))
-layer-key z top r h K =
-    rw (K .is) (sym (ap₂ _&&_ (le-key (pos 0) z (omega arith) (K .word)) (le-key z (pos top) (K .word) h)))
+pub layer-key : (z : ℤ) (r : ℕ) → Keyed z r → (leb 2147483648 r && leb r 2147483655) ≡ (leZ (pos 0) z && leZ z (pos 7))
+layer-key z r K =
+    rw (K .is) (sym (ap₂ _&&_ (le-key (pos 0) z (omega arith) (K .word)) (le-key z (pos 7) (K .word) (omega arith))))
 
 pub coordinate-key : (z : ℤ) (r : ℕ) → Keyed z r → (leb 1073741824 r && leb r 3221225472) ≡ inRange limit z
 coordinate-key z r K = rw (K .is) (go z (K .word))

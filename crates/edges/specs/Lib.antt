@@ -1,3 +1,3 @@
 -- Judging an edge list: what its answers are in the table, that there is one, and the laws by which it is shown.
 pub mod Answering
-pub mod Rows
+pub mod Refusals

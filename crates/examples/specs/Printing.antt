@@ -1,7 +1,7 @@
 -- The program's example in document 01, as a theorem about what the program prints. Assumes nothing.
 --
 --   mask              the rings of the example: A and B
---   printed-example   THE EXAMPLE: for `a*b`, a line feed and the 13 bytes of the mask file the program prints the six lines
+--   printed-example   THE EXAMPLE: for `a*b`, a textLine feed and the 13 bytes of the mask file the program prints the six lines
 use mathlib.Core.Path.{_≡_, refl, ap, subst}
 use mathlib.Core.List.{List, [], _∷_, _++_}
 use Prim.Native.Nat.{ℕ, _*_}
@@ -11,11 +11,11 @@ use lib.ListN.{replicate, length-replicate, take, drop}
 use Rattle.meaning.specs.Numbers.{limit}
 use Rattle.meaning.specs.Answers.{accepted}
 use Rattle.meaning.specs.Expression.{bytes}
-use Rattle.meaning.specs.Rings.{Ring, ring, pair, GoodRings, pairsIn, edgesOf, edgesBetween}
+use Rattle.meaning.specs.Rings.{Ring, ring, pair, GoodRings, pairsIn, ringEdges, edgesBetween}
 use Rattle.meaning.specs.MaskFile.{spelt, furtherPairs, storedPairs, storedRings, bytesOfAll}
-use Rattle.meaning.specs.Printed.{digits, decimal, signedText, line, firstLine, areaLine}
+use Rattle.meaning.specs.Printed.{digits, decimal, signedText, textLine, firstLine, areaLine}
 use Rattle.meaning.specs.Program.{textOf, fileOf, Prints}
-use Rattle.text_laws.specs.Lines.{numberLine, numberLines, acceptedText}
+use Rattle.printed_laws.specs.Lines.{numberLine, numberLines, acceptedText}
 use Rattle.program.specs.Parts.{OfEdges, printed-parts}
 use Rattle.program.specs.Edges.{edges-shown}
 use Rattle.program.specs.Files.{RingEdges, file-edges}
@@ -45,13 +45,13 @@ good = record {
 }
 
 rings : RingEdges file (A ++ B)
-unfolding edgesOf edgesBetween spelt furtherPairs storedPairs storedRings bytesOfAll
+unfolding ringEdges edgesBetween spelt furtherPairs storedPairs storedRings bytesOfAll
 rings = record { rings = mask; good = good; is = refl; edges = refl }
 
 -- the records' numbers stand at the front of the room, and the six lines are their text
 lines : (room : List ℤ) → acceptedText 4 (take (4 * 4) ((pos 0 ∷ pos 2 ∷ pos 10 ∷ pos 6 ∷ pos 0 ∷ pos 5 ∷ pos 6 ∷ pos 10 ∷ pos 1 ∷ pos 6 ∷ pos 2 ∷ pos 5 ∷ pos 1 ∷ pos 10 ∷ pos 5 ∷ pos 2 ∷ []) ++ room)) 12
     ≡ bytes "0 4\n0 2 10 6\n0 5 6 10\n1 6 2 5\n1 10 5 2\narea 12\n"
-unfolding acceptedText numberLines numberLine firstLine areaLine line signedText decimal digits bytes
+unfolding acceptedText numberLines numberLine firstLine areaLine textLine signedText decimal digits bytes
 lines room = refl
 
 pub printed-example : Prints (bytes "a*b\n" ++ file) (bytes "0 4\n0 2 10 6\n0 5 6 10\n1 6 2 5\n1 10 5 2\narea 12\n")

@@ -20,16 +20,16 @@ use Rattle.meaning.specs.Edges.{Edge, edgesOf, west, east, on, number, Closed, 
 use Rattle.meaning.specs.Expression.{Expr, eval, sum, Is, Judged}
 use Rattle.meaning.specs.Records.{numbersOf}
 use Rattle.meaning.specs.Calls.{cellsOf, recordsOf, areaOf, outcome, callRows, Runs, Areas}
-use Rattle.basics.specs.Tests.{and-left, and-right}
-use Rattle.basics.specs.Lists.{All, all-map, allBy, all-by}
-use Rattle.basics.specs.Sound.{Sound, SoundList}
-use Rattle.basics.specs.Sums.{sumOf}
-use Rattle.grid.specs.AreaLaws.{plus, minus}
+use Rattle.basic_laws.specs.Tests.{and-left, and-right}
+use Rattle.basic_laws.specs.Lists.{All, all-map, allBy, all-by}
+use Rattle.basic_laws.specs.Sound.{Sound, SoundList}
+use Rattle.basic_laws.specs.Sums.{sumOf}
+use Rattle.grid_laws.specs.AreaLaws.{plus, minus}
 use Rattle.expression_laws.specs.Reader.{got, a-sum, reads}
 use Rattle.expression_laws.specs.Meanings.{read-whole}
 use Rattle.expression_laws.specs.Judging.{answerTo, answerTo-right}
 use Rattle.laws.specs.Accepting.{Passed, edges-open, edges-pass, refused}
-use Rattle.demands.specs.Rows.{call-stops, call-text, run-refused, run-written, area-refused, area-given}
+use Rattle.call_laws.specs.Refusals.{call-stops, call-text, run-refused, run-written, area-refused, area-given}
 use Rattle.examples.specs.Shown.{fit, shown, levels, fit-sound, fit-closed, result-shown, cells-shown}
 
 unfoldable pub shaped : List ℤ → Bool

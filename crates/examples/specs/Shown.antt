@@ -18,15 +18,15 @@ use Rattle.meaning.specs.Edges.{Edge, Closed, soundEdge}
 use Rattle.meaning.specs.Cells.{inside, Within}
 use Rattle.meaning.specs.Records.{Record, result}
 use Rattle.meaning.specs.Area.{cells}
-use Rattle.basics.specs.Tests.{and-left, and-right}
-use Rattle.basics.specs.Sound.{Sound, lifted}
-use Rattle.grid.specs.Plane.{insideN, levelN, kindN, kindAt, resultN, resultAt, xsOf, ysOf, sorted, ClosedN}
-use Rattle.grid.specs.Compression.{result-sorted, levels-sorted}
-use Rattle.grid.specs.ClosedTest.{closedTest, closed-by, within-all}
-use Rattle.basics.specs.Sums.{sumOf}
-use Rattle.basics.specs.Steps.{lowered}
-use Rattle.basics.specs.Lists.{allBy, all-by}
-use Rattle.grid.specs.AreaLaws.{plus, minus, area}
+use Rattle.basic_laws.specs.Tests.{and-left, and-right}
+use Rattle.basic_laws.specs.Sound.{Sound, lifted}
+use Rattle.grid_laws.specs.Plane.{insideN, levelN, kindN, kindAt, resultN, resultAt, xsOf, ysOf, sorted, ClosedN}
+use Rattle.grid_laws.specs.Compression.{result-sorted, levels-sorted}
+use Rattle.grid_laws.specs.ClosedTest.{closedTest, closed-by, within-all}
+use Rattle.basic_laws.specs.Sums.{sumOf}
+use Rattle.basic_laws.specs.Steps.{lowered}
+use Rattle.basic_laws.specs.Lists.{allBy, all-by}
+use Rattle.grid_laws.specs.AreaLaws.{plus, minus, area}
 use Rattle.laws.specs.View.{view, result-view, cells-view, within-bounded}
 use Rattle.laws.specs.Covered.{inside-view, view-closed, inside-within}
 

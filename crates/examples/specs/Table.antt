@@ -20,16 +20,16 @@ use Rattle.meaning.specs.Records.{numbersOf}
 use Rattle.meaning.specs.MaskFile.{spelt, five, signed}
 use Rattle.meaning.specs.Faults.{Read}
 use Rattle.meaning.specs.Calls.{outcome, Runs, Areas}
-use Rattle.basics.specs.Tests.{spans}
-use Rattle.basics.specs.Lists.{All, allBy}
-use Rattle.basics.specs.Steps.{lift}
-use Rattle.basics.specs.Sound.{lifted}
-use Rattle.grid.specs.Plane.{goesWest, goesEast, upToN, westsN, eastsN, coversN, insideN, levelN, uprightN, lineAt, lineOver, eachOf, kindAt, resultAt, xsOf, ysOf, insertIf, insert, sorted}
-use Rattle.grid.specs.ClosedTest.{closedTest, closedOver, layersOf}
-use Rattle.basics.specs.Sums.{sumOf}
+use Rattle.basic_laws.specs.Tests.{spans}
+use Rattle.basic_laws.specs.Lists.{All, allBy}
+use Rattle.basic_laws.specs.Steps.{lift}
+use Rattle.basic_laws.specs.Sound.{lifted}
+use Rattle.grid_laws.specs.Plane.{goesWest, goesEast, upToN, westsN, eastsN, coversN, insideN, levelN, uprightN, lineAt, lineOver, eachOf, kindAt, resultAt, xsOf, ysOf, insertIf, insert, sorted}
+use Rattle.grid_laws.specs.ClosedTest.{closedTest, closedOver, layersOf}
+use Rattle.basic_laws.specs.Sums.{sumOf}
 use Rattle.expression_laws.specs.Reader.{letterAt, read, reads}
 use Rattle.expression_laws.specs.Judging.{answerTo}
-use Rattle.maskcalls.specs.Examples.{stored-100, stored-limit, bytes-80-00, file-01, empty-file}
+use Rattle.mask_laws.specs.Examples.{stored-100, stored-limit, bytes-80-00, file-01, empty-file}
 use Rattle.drawing.specs.Drawing.{Drawing}
 use Rattle.drawing.specs.declared.Drawn.{Drawn}
 use Rattle.drawing.specs.declared.Drawn.the-variants.{Level, Upright, Refused}

@@ -13,7 +13,7 @@ use lib.IntN.{ℤ, natAbs}
 use Rattle.meaning.specs.Numbers.{pick}
 use Rattle.meaning.specs.Answers.{Answer, answer, Row, given, First}
 use Rattle.meaning.specs.Drawn.{viewInRange, recordInRange, isLevel, placeOffset, endOffset, allDrawn}
-use Rattle.basics.specs.Tables.{Single, single-given, one-answer, not-given}
+use Rattle.basic_laws.specs.Tables.{Single, single-given, one-answer, not-given}
 use Rattle.drawing.specs.Drawing.{answerOf, refuses, ExactFloats, Shown, Drawing}
 use Rattle.drawing.specs.declared.Floats.{Floats}
 use Rattle.drawing.specs.declared.Drawn.{Drawn}

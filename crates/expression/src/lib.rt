@@ -1,5 +1,6 @@
 // The expression: the judging call, and the table of its values at all covers.
 use readers::Piece;
+use scanline::Scanline;
 ghost use mathlib.Core.Path.{_≡_};
 ghost use mathlib.Core.Bool.{true, false};
 ghost use Prim.Native.Nat.{_+_, _^_, _≤_, _<_};
@@ -15,6 +16,12 @@ const LONGEST: usize = 64;
 
 // The most parentheses that may be open.
 const DEEPEST: usize = 16;
+
+// The layers.
+const LAYERS: u8 = Scanline::LAYERS as u8;
+
+// The covers: each layer covers or not.
+pub const COVERS: usize = 1 << Scanline::LAYERS;
 
 // 1 where b is x, else 0.
 fn one_if(b: u8, x: u8) -> usize
@@ -125,7 +132,7 @@ fn entry(text: &[u8], handed: readers::Handed, read: bool, known: bool) -> bool
 
 // One layer more, which counts half: the covers below half have their entries, and those with the layer get theirs. Where its letter does
 // not stand in the text, an entry with the layer is the one without it, and nothing is read.
-fn add_layer(text: &[u8], truth: &mut [bool; 256], layer: u8, half: usize)
+fn add_layer(text: &[u8], truth: &mut [bool; COVERS], layer: u8, half: usize)
     requires { ⌜ (layer < 8) × (half ≡ 2 ^ layer) × Filled (now text) half (now truth) ⌝ }
     ensures { λ _. ⌜ Filled (now (text .entry)) (half + half) (now (truth .exit)) ⌝ }
 {
@@ -141,15 +148,15 @@ fn add_layer(text: &[u8], truth: &mut [bool; 256], layer: u8, half: usize)
 
 // The values at all 256 covers; all false where the text is not in the grammar. With k different letters of a to h in it the text is read
 // 2^k times; an accepted text has at most 64 bytes.
-pub fn table(text: &[u8]) -> [bool; 256]
+pub fn table(text: &[u8]) -> [bool; COVERS]
     ensures { λ r. ⌜ Table (now (text .entry)) r ⌝ }
 {
-    let mut truth = [false; 256];
+    let mut truth = [false; COVERS];
     let v = value(text, 0);
     truth[0] = v;
     let mut half: usize = 1;
     let mut layer: u8 = 0;
-    while layer < 8 {
+    while layer < LAYERS {
         add_layer(text, &mut truth, layer, half);
         half += half;
         layer += 1;

@@ -12,7 +12,7 @@ use native.Mathlib.Omega.{arith}
 use lib.ListN.{length, getD, drop, length-append}
 use lib.Seq.{drop-drop, getD-drop}
 use Rattle.meaning.specs.Expression.{Operator, Expr, negated, joined, and, and-not, or, exclusive-or, Level, factor, product, sum, Is, a-letter, not-before, in-parentheses, one-factor, times, minus, one-product, plus, caret}
-use Rattle.basics.specs.Stores.{drop-past}
+use Rattle.basic_laws.specs.Stores.{drop-past}
 use Rattle.expression_laws.specs.Reader.{got, tight, loose, operatorOf, Part, a-factor, a-product, a-sum, product-on, sum-on, reads}
 use Rattle.expression_laws.specs.Steps.{at-not, at-open, at-letter, Chain, product-chain, sum-chain, chain-starts, chain-stops, chain-goes-on}
 

@@ -5,15 +5,14 @@
 --   Entry s h v        v is the value of the text s where h is handed, and false where s is not in the grammar
 --   Table s truth      truth has the 256 entries of the text s
 --   Changes truth l    two covers that differ in the layer l alone have different entries
---   Letters truth r    the byte r says with which layers the entries change
 use mathlib.Core.Path.{_≡_}
 use mathlib.Core.Logic.{_⊎_}
-use mathlib.Core.Bool.{Bool, true, false}
+use mathlib.Core.Bool.{Bool, false}
 use mathlib.Core.List.{List}
 use Prim.Native.Nat.{ℕ, _<_}
 use lib.ListN.{length, getD}
 use Rattle.meaning.specs.Expression.{Handed, InGrammar, Means}
-use Rattle.basics.specs.Bits.{bitAt, ofBits}
+use Rattle.basic_laws.specs.Bits.{bitAt, ofBits}
 
 abbrev pub coverOf : ℕ → Handed
 coverOf m l = bitAt m l
@@ -33,8 +32,3 @@ pub record Changes (truth : List Bool) (l : ℕ) : Type 0 where
   pub other : Handed
   pub alike : (k : ℕ) → (k ≡ l → ⊥) → one k ≡ other k
   pub differ : getD truth (byteOf one) false ≡ getD truth (byteOf other) false → ⊥
-
-pub record Letters (truth : List Bool) (r : ℕ) : Type 0 where
-  pub below : r < 256
-  pub changes : (l : ℕ) → l < 8 → coverOf r l ≡ true → Changes truth l
-  pub others : (l : ℕ) → l < 8 → coverOf r l ≡ false → Changes truth l → ⊥

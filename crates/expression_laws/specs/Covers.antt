@@ -4,19 +4,12 @@
 --   cover-byte           every cover is, as far as the eight layers go, the cover of its byte
 --   byte-cover           a byte is the byte of its cover
 --   one-byte             bytes of one cover are equal
---   one-cover            so every cover is, as far as the eight layers go, that of exactly one byte
 --   no-layer             a byte below 2^l says that the layer l does not cover
 --   more-byte            the byte of a cover with one layer more
 --   no-cover             the byte 0 says that nothing covers
 --   one-table            tables of one text are equal
 --   looked-up            the table tells the value at every cover
 --   means-looked-up      and of a text in the grammar it tells a value
---   one-letters          bytes that say with which layers the entries change are equal
---   depends-changes      the entries change with a layer on which the text depends
---   changes-depends      and with no other
---   letters-depend       so a byte that says with which layers the entries of a text change says on which layers the text depends
---   unseen               layers on which a text does not depend have no part in its value
---   left-out             layers with which the entries do not change have no part in them
 use mathlib.Core.Path.{_≡_, refl, sym, ap, _∙_}
 use mathlib.Core.Logic.{_⊎_, inl, inr}
 use mathlib.Core.Bool.{Bool, true, false, true≢false, false≢true}
@@ -31,11 +24,10 @@ use lib.Pow.{pow-pos}
 use lib.Seq.{ext-getD}
 use borrow.Author.Tests.{lt-ltb, le-ltb, eq-eqb, ne-eqb}
 use Rattle.meaning.specs.Numbers.{pick}
-use Rattle.meaning.specs.Expression.{Handed, nothing, with-layer, eval, InGrammar, Means, Depends}
-use Rattle.basics.specs.Bits.{bitAt, ofBits-below, ofBits-same, ofBits-step, bitAt-ofBits, ofBits-bitAt}
-use Rattle.basics.specs.Tests.{not-self, is-other}
-use Rattle.expression_laws.specs.Cover.{coverOf, byteOf, Entry, Table, Changes, Letters}
-use Rattle.expression_laws.specs.Meanings.{one-value, decided, means-at, means-same}
+use Rattle.meaning.specs.Expression.{Handed, nothing, with-layer, InGrammar, Means}
+use Rattle.basic_laws.specs.Bits.{bitAt, ofBits-below, ofBits-same, ofBits-step, bitAt-ofBits, ofBits-bitAt}
+use Rattle.expression_laws.specs.Cover.{coverOf, byteOf, Entry, Table}
+use Rattle.expression_laws.specs.Meanings.{one-value, means-same}
 
 -- ---- bytes
 
@@ -53,9 +45,6 @@ byte-same g h e = ofBits-same 8 g h e
 
 pub one-byte : (m n : ℕ) → m < 256 → n < 256 → ((l : ℕ) → l < 8 → coverOf m l ≡ coverOf n l) → m ≡ n
 one-byte m n a b e = sym (byte-cover m a) ∙ byte-same (coverOf m) (coverOf n) e ∙ byte-cover n b
-
-pub one-cover : (h : Handed) → (m : ℕ) × (m < 256) × ((l : ℕ) → l < 8 → coverOf m l ≡ h l) × ((n : ℕ) → n < 256 → ((l : ℕ) → l < 8 → coverOf n l ≡ h l) → n ≡ m)
-one-cover h = (byteOf h, byteOf-below h, cover-byte h, λ n u e. one-byte n (byteOf h) u (byteOf-below h) (λ l k. e l k ∙ sym (cover-byte h l k)))
 
 pub no-layer : (m l : ℕ) → m < 2 ^ l → coverOf m l ≡ false
 unfolding bitAt
@@ -112,43 +101,6 @@ same-or-not true false = inr true≢false
 same-or-not false true = inr false≢true
 same-or-not false false = inl refl
 
-pub depends-changes : {s : List ℕ} {truth : List Bool} → Table s truth → (l : ℕ) → Depends s l → Changes truth l
-depends-changes t l d =
-    record {
-      one = d .one;
-      other = d .other;
-      alike = d .alike;
-      differ = λ e. not-self (d .value) (sym (looked-up t (d .one) (d .at-one)) ∙ e ∙ looked-up t (d .other) (d .at-other));
-    }
-
-pub changes-depends : {s : List ℕ} {truth : List Bool} → Table s truth → (l : ℕ) → Changes truth l → Depends s l
-changes-depends {s} {truth} t l c = go (decided s)
-  where
-    go : Dec (InGrammar s) → Depends s l
-    go (yes x) =
-        record {
-          one = c .one;
-          other = c .other;
-          alike = c .alike;
-          value = getD truth (byteOf (c .one)) false;
-          at-one = means-looked-up t x (c .one);
-          at-other = rw (← is-other (getD truth (byteOf (c .other)) false) (getD truth (byteOf (c .one)) false) (λ e. c .differ (sym e))) (means-looked-up t x (c .other));
-        }
-    go (no f) = absurd (c .differ (outside t f (c .one) ∙ sym (outside t f (c .other))))
-
-pub letters-depend : {s : List ℕ} {truth : List Bool} {r : ℕ} → Table s truth → Letters truth r → (l : ℕ) → l < 8
-    → (coverOf r l ≡ true → Depends s l) × (coverOf r l ≡ false → Depends s l → ⊥)
-letters-depend t a l u = ((λ e. changes-depends t l (a .changes l u e)), (λ e d. a .others l u e (depends-changes t l d)))
-
-pub one-letters : (truth : List Bool) (r q : ℕ) → Letters truth r → Letters truth q → r ≡ q
-one-letters truth r q a b = one-byte r q (a .below) (b .below) (λ l k. go l k (coverOf r l) refl (coverOf q l) refl)
-  where
-    go : (l : ℕ) → l < 8 → (x : Bool) → coverOf r l ≡ x → (y : Bool) → coverOf q l ≡ y → coverOf r l ≡ coverOf q l
-    go l k true e true f = e ∙ sym f
-    go l k true e false f = absurd (b .others l k f (a .changes l k e))
-    go l k false e true f = absurd (a .others l k e (b .changes l k f))
-    go l k false e false f = e ∙ sym f
-
 -- A value that looks at the eight layers alone, and two covers that agree on each layer with which it changes: one layer after the other is changed from g to h.
 module _ (worth : Handed → Bool) (sees : (a b : Handed) → ((l : ℕ) → l < 8 → a l ≡ b l) → worth a ≡ worth b) (g h : Handed)
     (agree : (l : ℕ) → l < 8 → (one other : Handed) → ((k : ℕ) → (k ≡ l → ⊥) → one k ≡ other k) → (worth one ≡ worth other → ⊥) → g l ≡ h l) where
@@ -193,35 +145,3 @@ module _ (worth : Handed → Bool) (sees : (a b : Handed) → ((l : ℕ) → l <
 
   unchanged : worth g ≡ worth h
   unchanged = sees g (mix 0) (λ l _. sym (mix-above 0 l (omega arith))) ∙ mix-to 8 (omega arith) ∙ sees (mix 8) h (λ l u. mix-below 8 l u)
-
-pub unseen : {s : List ℕ} {g h : Handed} {v w : Bool} → Means s g v → Means s h w → ((l : ℕ) → l < 8 → Depends s l → g l ≡ h l) → v ≡ w
-unseen {s} {g} {h} m n agree =
-    m .value
-    ∙ unchanged (λ k. eval k (m .expr)) (λ a b e. sees a b e) g h
-    (λ l u one other alike f.
-    agree l u
-    (record {
-      one = one;
-      other = other;
-      alike = alike;
-      value = eval one (m .expr);
-      at-one = means-at s x one;
-      at-other = rw (← is-other (eval other (m .expr)) (eval one (m .expr)) (λ e. f (sym e))) (means-at s x other);
-    }))
-    ∙ one-value s (means-at s x h) n
-  where
-    x : InGrammar s
-    x = (m .expr, m .is)
-
-    sees : (a b : Handed) → ((l : ℕ) → l < 8 → a l ≡ b l) → eval a (m .expr) ≡ eval b (m .expr)
-    sees a b e = one-value s (means-same a b e (means-at s x a)) (means-at s x b)
-
-pub left-out : {truth : List Bool} {r : ℕ} → Letters truth r → (g h : Handed) → ((l : ℕ) → l < 8 → coverOf r l ≡ true → g l ≡ h l)
-    → getD truth (byteOf g) false ≡ getD truth (byteOf h) false
-left-out {truth} {r} t g h agree =
-    unchanged (λ k. getD truth (byteOf k) false) (λ a b e. ap (λ m. getD truth m false) (byte-same a b e)) g h
-    (λ l u one other alike f. go l u (coverOf r l) refl (record { one = one; other = other; alike = alike; differ = f }))
-  where
-    go : (l : ℕ) → l < 8 → (b : Bool) → coverOf r l ≡ b → Changes truth l → g l ≡ h l
-    go l u true e c = agree l u e
-    go l u false e c = absurd (t .others l u e c)

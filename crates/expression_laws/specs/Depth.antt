@@ -20,7 +20,7 @@ use borrow.Author.Tests.{eq-eqb, ne-eqb}
 use Rattle.meaning.specs.Numbers.{bit}
 use Rattle.meaning.specs.Expression.{often, Deep}
 use Rattle.meaning.specs.Edges.{number}
-use Rattle.basics.specs.Lists.{number-append}
+use Rattle.basic_laws.specs.Lists.{number-append}
 
 pub often-append : (b : ℕ) (s t : List ℕ) → often b (s ++ t) ≡ often b s + often b t
 unfolding often

@@ -22,7 +22,7 @@ use Rattle.meaning.specs.Numbers.{bit, pick}
 use Rattle.meaning.specs.Answers.{Answer, accepted, expression-length, too-deep, not-in-grammar, holds-on-nothing}
 use Rattle.meaning.specs.Expression.{Expr, Handed, nothing, eval, InGrammar, Means, often, Deep, refusals, Judged}
 use Rattle.meaning.specs.Edges.{number}
-use Rattle.basics.specs.Tables.{single-given, not-given, one-answer}
+use Rattle.basic_laws.specs.Tables.{single-given, not-given, one-answer}
 use Rattle.expression_laws.specs.Reader.{Read, got, refused, a-sum, reads}
 use Rattle.expression_laws.specs.Meanings.{read-whole, cut-short, not-read, one-value, not-outside, means-at}
 

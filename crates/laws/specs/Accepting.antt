@@ -25,11 +25,11 @@ use lib.ListN.{length, getD, drop}
 use lib.Seq.{drop-length}
 use Rattle.meaning.specs.Answers.{Answer, accepted, Row, given, First, not-fours, too-many-edges, out-of-range, from-equals-to, not-closed}
 use Rattle.meaning.specs.Edges.{Edge, edgesOf, west, east, on, number, Closed, soundEdge, flat, recordRows, edgeRows}
-use Rattle.basics.specs.Lists.{All, all-at}
-use Rattle.basics.specs.Tables.{Singles, single-given, not-given, Silent, silent-append, singles-append}
-use Rattle.basics.specs.Fours.{none}
-use Rattle.basics.specs.Sound.{Sound, SoundList}
-use Rattle.basics.specs.Tests.{is-other}
+use Rattle.basic_laws.specs.Lists.{All, all-at}
+use Rattle.basic_laws.specs.Tables.{Singles, single-given, not-given, Silent, silent-append, singles-append}
+use Rattle.basic_laws.specs.Fours.{none}
+use Rattle.basic_laws.specs.Sound.{Sound, SoundList}
+use Rattle.basic_laws.specs.Tests.{is-other}
 
 abbrev pub Passed : Row Answer
 Passed a = a ≡ accepted 0

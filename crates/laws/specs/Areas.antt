@@ -14,14 +14,14 @@ use Rattle.meaning.specs.Numbers.{bit, step}
 use Rattle.meaning.specs.Cells.{Dir, off, fwd, bwd, level, upright, Within}
 use Rattle.meaning.specs.Records.{Run, run, line, Record, rec, recordOf, each, kindOf, result}
 use Rattle.meaning.specs.Area.{total, cells, signedTerm, signedSum}
-use Rattle.basics.specs.Lists.{All}
-use Rattle.basics.specs.Signed.{minus-sub, sub-pos, sub-neg, sub-same}
-use Rattle.grid.specs.Plane.{recordAt, levelN, kindN}
-use Rattle.basics.specs.Sums.{sumOf}
-use Rattle.basics.specs.Steps.{lowered}
-use Rattle.grid.specs.Sums.{total-same, total-swap}
-use Rattle.grid.specs.AreaLaws.{Additive, sum-kind, east, west, stepN, climb, plus, minus, cellsN, area}
-use Rattle.grid.specs.Wrap.{cells-le}
+use Rattle.basic_laws.specs.Lists.{All}
+use Rattle.basic_laws.specs.Signed.{minus-sub, sub-pos, sub-neg, sub-same}
+use Rattle.grid_laws.specs.Plane.{recordAt, levelN, kindN}
+use Rattle.basic_laws.specs.Sums.{sumOf}
+use Rattle.basic_laws.specs.Steps.{lowered}
+use Rattle.grid_laws.specs.Sums.{total-same, total-swap}
+use Rattle.grid_laws.specs.AreaLaws.{Additive, sum-kind, east, west, stepN, climb, plus, minus, cellsN, area}
+use Rattle.grid_laws.specs.Wrap.{cells-le}
 use Rattle.laws.specs.View.{view, levels-view, within-bounded, cells-view}
 use Rattle.laws.specs.Parts.{Kind0, kind-zero}
 

@@ -13,8 +13,8 @@ use lib.IntN.{ℤ}
 use lib.Signed.{leZ, ltZ}
 use Rattle.meaning.specs.Numbers.{bit}
 use Rattle.meaning.specs.Edges.{Edge, edge, west, east, on, upTo, number, wests, easts, Closed}
-use Rattle.basics.specs.Signed.{not-leZ}
-use Rattle.basics.specs.Tests.{one-column, one-corner}
+use Rattle.basic_laws.specs.Signed.{not-leZ}
+use Rattle.basic_laws.specs.Tests.{one-column, one-corner}
 
 unfoldable pub toUpTo : ℤ → Edge ℤ → Bool
 toUpTo i (edge l y f t) = leZ t i

@@ -19,13 +19,13 @@ use borrow.Author.Tests.{le-leb}
 use Rattle.meaning.specs.Numbers.{inRange, step}
 use Rattle.meaning.specs.Edges.{Edge, edge, west, east, on, upTo, number, wests, easts, count, covers, Closed, soundEdge}
 use Rattle.meaning.specs.Cells.{inside, Within}
-use Rattle.basics.specs.Tests.{and-off, and-on, spans}
-use Rattle.basics.specs.Lists.{All, all-map, number-same, number-none, number-to-map}
-use Rattle.basics.specs.Signed.{eqZ-natural, not-leZ, lt-le-trans, le-trans-leZ, lt-not-le, le-not-lt, lt-le}
-use Rattle.basics.specs.Steps.{lift, step-le, step-lift, lift-le, le-lift, lt-lift, beyond}
-use Rattle.basics.specs.Sound.{Sound, sound-parts, lifted}
-use Rattle.grid.specs.Plane.{goesWest, goesEast, upToN, westsN, eastsN, coversN, insideN, ClosedN}
-use Rattle.grid.specs.Covering.{covers-none}
+use Rattle.basic_laws.specs.Tests.{and-off, and-on, spans}
+use Rattle.basic_laws.specs.Lists.{All, all-map, number-same, number-none, number-to-map}
+use Rattle.basic_laws.specs.Signed.{eqZ-natural, not-leZ, lt-le-trans, le-trans-leZ, lt-not-le, le-not-lt, lt-le}
+use Rattle.basic_laws.specs.Steps.{lift, step-le, step-lift, lift-le, le-lift, lt-lift, beyond}
+use Rattle.basic_laws.specs.Sound.{Sound, sound-parts, lifted}
+use Rattle.grid_laws.specs.Plane.{goesWest, goesEast, upToN, westsN, eastsN, coversN, insideN, ClosedN}
+use Rattle.grid_laws.specs.Covering.{covers-none}
 use Rattle.laws.specs.View.{view, first-step, last-is}
 
 -- ---- coordinates beside numbers outside the range

@@ -15,11 +15,11 @@ use lib.Signed.{leZ}
 use borrow.Author.Tests.{le-leb, lt-leb, eq-eqb, ne-eqb}
 use Rattle.meaning.specs.Numbers.{bit, eqZ, step}
 use Rattle.meaning.specs.Edges.{Edge, edge, on, west, east, number, Closed, soundEdge}
-use Rattle.basics.specs.Lists.{all-map, number-none}
-use Rattle.basics.specs.Tests.{and-off, and-parts, ltb-more}
-use Rattle.basics.specs.Steps.{step-pred}
-use Rattle.basics.specs.Sound.{Sound, sound-parts, lifted}
-use Rattle.grid.specs.Plane.{ClosedN}
+use Rattle.basic_laws.specs.Lists.{all-map, number-none}
+use Rattle.basic_laws.specs.Tests.{and-off, and-parts, ltb-more}
+use Rattle.basic_laws.specs.Steps.{step-pred}
+use Rattle.basic_laws.specs.Sound.{Sound, sound-parts, lifted}
+use Rattle.grid_laws.specs.Plane.{ClosedN}
 use Rattle.laws.specs.View.{before-first}
 use Rattle.laws.specs.Columns.{toUpTo, fromUpTo, columns, closed-up-to}
 use Rattle.laws.specs.Covered.{low, wests-column, easts-column, view-closed}

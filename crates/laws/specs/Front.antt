@@ -20,7 +20,7 @@ pub use Rattle.laws.specs.Ends.{closed-ends, ends-closed}
 -- THE AREA: the sum of y times (to - from) over the kind 0 records is the number of inside cells, which is at most (2 * L)^2; and a sum that
 -- wraps modulo 2^64 ends at the same number
 pub use Rattle.laws.specs.Areas.{signed-area, area-at-most}
-pub use Rattle.grid.specs.Wrap.{area-wraps}
+pub use Rattle.grid_laws.specs.Wrap.{area-wraps}
 -- A RESULT AS A LAYER: put in, its count is 1 at each of its cells and 0 elsewhere, it is closed, and other layers have nothing of it
 pub use Rattle.laws.specs.Parts.{put-in-adds, put-in-closed, put-in-other}
 -- WORK BY PARTS: an expression over a layer that holds a part's result is the expression with the part in the layer's place
@@ -32,8 +32,8 @@ pub use Rattle.laws.specs.Parts.{kinds-even}
 -- THE VIEW: result and cells may be worked out in steps from the least coordinate, and there only at the places of the edges
 pub use Rattle.laws.specs.View.{result-view, cells-view}
 pub use Rattle.laws.specs.Covered.{inside-view, closed-view}
-pub use Rattle.grid.specs.Compression.{result-at}
+pub use Rattle.grid_laws.specs.Compression.{result-at}
 -- ACCEPTED: refusals 1 to 5 let a list pass exactly when its numbers are at most 4,096 sound edges, none of them flat, and closed
 pub use Rattle.laws.specs.Accepting.{edges-pass, edges-passed}
 -- ONE ANSWER: a table of refusals says one answer, for every call
-pub use Rattle.basics.specs.Tables.{one-answer}
+pub use Rattle.basic_laws.specs.Tables.{one-answer}

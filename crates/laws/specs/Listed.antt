@@ -19,14 +19,14 @@ use Rattle.meaning.specs.Numbers.{bit, eqZ, inRange, step}
 use Rattle.meaning.specs.Edges.{number}
 use Rattle.meaning.specs.Cells.{Dir, off, fwd, bwd, turn, goes, level, upright, Within}
 use Rattle.meaning.specs.Records.{Run, run, line, Record, rec, each, result, passes, passing}
-use Rattle.basics.specs.Tests.{and-off, spans}
-use Rattle.basics.specs.Lists.{All, all-map, all-append, all-to-map, number-none}
-use Rattle.basics.specs.Signed.{eqZ-no, lt-le-trans, le-trans-leZ, lt-not-le, le-not-lt, lt-le, pred-lt, lt-pred}
-use Rattle.basics.specs.Steps.{lift, step-lt, step-le, step-eq, step-lift, lift-le, step-range, beyond, lowered}
-use Rattle.grid.specs.Plane.{levelN, uprightN, recordAt, kindN, resultN}
-use Rattle.grid.specs.OneLine.{Good, UpTo, line-good, line-upto}
-use Rattle.basics.specs.Sums.{sumOf}
-use Rattle.grid.specs.Pieces.{passesN, passingN, level-passing, upright-passing}
+use Rattle.basic_laws.specs.Tests.{and-off, spans}
+use Rattle.basic_laws.specs.Lists.{All, all-map, all-append, all-to-map, number-none}
+use Rattle.basic_laws.specs.Signed.{eqZ-no, lt-le-trans, le-trans-leZ, lt-not-le, le-not-lt, lt-le, pred-lt, lt-pred}
+use Rattle.basic_laws.specs.Steps.{lift, step-lt, step-le, step-eq, step-lift, lift-le, step-range, beyond, lowered}
+use Rattle.grid_laws.specs.Plane.{levelN, uprightN, recordAt, kindN, resultN}
+use Rattle.grid_laws.specs.OneLine.{Good, UpTo, line-good, line-upto}
+use Rattle.basic_laws.specs.Sums.{sumOf}
+use Rattle.grid_laws.specs.Pieces.{passesN, passingN, level-passing, upright-passing}
 use Rattle.laws.specs.View.{view, level-view, upright-view, result-view, first-step, last-step, last-is}
 
 -- ---- a record in steps passes what its lowered record passes

@@ -21,13 +21,13 @@ use Rattle.meaning.specs.Numbers.{bit, pick, inRange, step}
 use Rattle.meaning.specs.Edges.{number}
 use Rattle.meaning.specs.Cells.{Dir, off, fwd, bwd, goes, level, upright, Within}
 use Rattle.meaning.specs.Records.{Run, run, sameDir, Record, rec, kindOf, result, passes, lesser, greater, same, before, passing, Ahead, InOrder}
-use Rattle.basics.specs.Tests.{and-left, and-right, and-off, and-on, leb-same, spans, spans-below, spans-above, spans-empty}
-use Rattle.basics.specs.Lists.{All, all-map, all-append, all-to-map, number-none}
-use Rattle.basics.specs.Steps.{lift, step-lt, step-eq, step-range, step-lift, lift-le, lowered}
-use Rattle.grid.specs.OneLine.{Good, dirAt, unique, fwd≢off, bwd≢off}
-use Rattle.grid.specs.Plane.{resultN}
-use Rattle.basics.specs.Sums.{sumOf}
-use Rattle.grid.specs.Pieces.{passesN, passingN}
+use Rattle.basic_laws.specs.Tests.{and-left, and-right, and-off, and-on, leb-same, spans, spans-below, spans-above, spans-empty}
+use Rattle.basic_laws.specs.Lists.{All, all-map, all-append, all-to-map, number-none}
+use Rattle.basic_laws.specs.Steps.{lift, step-lt, step-eq, step-range, step-lift, lift-le, lowered}
+use Rattle.grid_laws.specs.OneLine.{Good, dirAt, unique, fwd≢off, bwd≢off}
+use Rattle.grid_laws.specs.Plane.{resultN}
+use Rattle.basic_laws.specs.Sums.{sumOf}
+use Rattle.grid_laws.specs.Pieces.{passesN, passingN}
 use Rattle.laws.specs.View.{view, result-view}
 use Rattle.laws.specs.Listed.{Inner, result-inner, passing-view, level-listed, upright-listed}
 use Rattle.laws.specs.Ordered.{From, lines-from, result-in-order}

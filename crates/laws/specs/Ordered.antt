@@ -16,11 +16,11 @@ use borrow.Author.Tests.{lt-ltb, le-ltb, eq-eqb}
 use Rattle.meaning.specs.Numbers.{pick, eqZ, step}
 use Rattle.meaning.specs.Cells.{Dir, off, fwd, bwd, level, upright}
 use Rattle.meaning.specs.Records.{Run, run, line, Record, rec, recordOf, each, kindOf, result, lesser, greater, forward, same, apart, before, Ahead, InOrder}
-use Rattle.basics.specs.Tests.{or-true}
-use Rattle.basics.specs.Lists.{All, all-map, all-append}
-use Rattle.basics.specs.Signed.{eqZ-yes, eqZ-refl}
-use Rattle.basics.specs.Steps.{step-lt}
-use Rattle.grid.specs.OneLine.{Good, line-good}
+use Rattle.basic_laws.specs.Tests.{or-true}
+use Rattle.basic_laws.specs.Lists.{All, all-map, all-append}
+use Rattle.basic_laws.specs.Signed.{eqZ-yes, eqZ-refl}
+use Rattle.basic_laws.specs.Steps.{step-lt}
+use Rattle.grid_laws.specs.OneLine.{Good, line-good}
 
 -- ---- lists in order, one before the other
 

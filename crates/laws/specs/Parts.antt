@@ -23,16 +23,16 @@ use Rattle.meaning.specs.Edges.{Edge, edge, west, east, on, upTo, wests, easts,
 use Rattle.meaning.specs.Cells.{Dir, off, fwd, bwd, inside, level, upright, Within}
 use Rattle.meaning.specs.Records.{Run, run, line, Record, rec, recordOf, each, kindOf, result, putIn}
 use Rattle.meaning.specs.Area.{cells}
-use Rattle.basics.specs.Lists.{All, all-map, number-none, number-append}
-use Rattle.basics.specs.Signed.{lt-le}
-use Rattle.basics.specs.Steps.{lift, lift-step, step-range, step-lift, beyond, lowered}
-use Rattle.basics.specs.Sound.{Sound, lifted}
-use Rattle.grid.specs.Plane.{westsN, eastsN, levelN, uprightN, kindN, ClosedN}
-use Rattle.grid.specs.Covering.{covers-one}
-use Rattle.grid.specs.AsLayer.{asLayer, layer, cells-and-or as cells-and-or-steps}
-use Rattle.grid.specs.AreaLaws.{cellsN}
-use Rattle.grid.specs.Points.{as-many}
-use Rattle.grid.specs.Beside.{layer-adds, layer-closed}
+use Rattle.basic_laws.specs.Lists.{All, all-map, number-none, number-append}
+use Rattle.basic_laws.specs.Signed.{lt-le}
+use Rattle.basic_laws.specs.Steps.{lift, lift-step, step-range, step-lift, beyond, lowered}
+use Rattle.basic_laws.specs.Sound.{Sound, lifted}
+use Rattle.grid_laws.specs.Plane.{westsN, eastsN, levelN, uprightN, kindN, ClosedN}
+use Rattle.grid_laws.specs.Covering.{covers-one}
+use Rattle.grid_laws.specs.AsLayer.{asLayer, layer, cells-and-or as cells-and-or-steps}
+use Rattle.grid_laws.specs.AreaLaws.{cellsN}
+use Rattle.grid_laws.specs.Points.{as-many}
+use Rattle.grid_laws.specs.Beside.{layer-adds, layer-closed}
 use Rattle.laws.specs.View.{view, levels-view, uprights-view, within-bounded}
 use Rattle.laws.specs.Covered.{wests-view, easts-view, outside-even, view-closed}
 use Rattle.laws.specs.Listed.{Inner, all-each, kind-inner}

@@ -17,12 +17,12 @@ use Rattle.meaning.specs.Numbers.{step}
 use Rattle.meaning.specs.Cells.{Dir, off, fwd, bwd, turn, level, upright, Within}
 use Rattle.meaning.specs.Records.{Run, run, line, Record, rec, recordOf, each, kindOf, result}
 use Rattle.meaning.specs.Area.{cells}
-use Rattle.basics.specs.Lists.{map-append}
-use Rattle.basics.specs.Signed.{minus-sub, sub-pos, sub-neg}
-use Rattle.basics.specs.Steps.{step-pred, lowered}
-use Rattle.grid.specs.Plane.{prior, levelN, uprightN, recordAt, kindN, resultN}
-use Rattle.grid.specs.AreaLaws.{cellsN}
-use Rattle.grid.specs.Beside.{Bounded}
+use Rattle.basic_laws.specs.Lists.{map-append}
+use Rattle.basic_laws.specs.Signed.{minus-sub, sub-pos, sub-neg}
+use Rattle.basic_laws.specs.Steps.{step-pred, lowered}
+use Rattle.grid_laws.specs.Plane.{prior, levelN, uprightN, recordAt, kindN, resultN}
+use Rattle.grid_laws.specs.AreaLaws.{cellsN}
+use Rattle.grid_laws.specs.Beside.{Bounded}
 
 abbrev pub view : ℕ → (ℤ → ℤ → Bool) → ℕ → ℕ → Bool
 view L g i j = g (step L i) (step L j)

@@ -14,16 +14,17 @@ use native.Mathlib.Decide.{ℕ-discrete}
 use lib.Dec.{eqb, ltb}
 use lib.IntN.{ℤ, pos, negsuc, natAbs, subℕ, _+ℤ_, _-ℤ_}
 use borrow.Author.Tests.{eq-eqb, ne-eqb, eqb-true, ltb-true, ltb-false}
-use Rattle.basics.specs.Signed.{keyOf}
+use Rattle.basic_laws.specs.Signed.{keyOf}
 use Rattle.meaning.specs.Numbers.{pick, limit}
+use Rattle.meaning.specs.Answers.{ends-inside, bad-number}
 use Rattle.meaning.specs.Rings.{xs, ys}
-use Rattle.meaning.specs.MaskFile.{five, signed}
-use Rattle.meaning.specs.Faults.{Begun, at-layer, at-count, at-x, at-y, previous, Means, IsCoordinate}
-use Rattle.ringlaws.specs.Groups.{Front, cut, bad, number, front, clash, front-bounds}
-use Rattle.ringlaws.specs.Differences.{unsigned, signed-unsigned, difference-back, in-range}
-use Rattle.ringlaws.specs.Beginnings.{Good}
-use Rattle.ringlaws.specs.Forms.{previous-size, range-xs, range-ys}
-use Rattle.numbers.specs.Reading.{reading}
+use Rattle.meaning.specs.MaskFile.{most, five, signed}
+use Rattle.meaning.specs.Faults.{Begun, at-layer, at-count, at-x, at-y, previous, Stores, IsCoordinate}
+use Rattle.ring_laws.specs.Groups.{Front, cut, bad, number, front, clash, front-bounds}
+use Rattle.ring_laws.specs.Differences.{unsigned, signed-unsigned, difference-back, in-range}
+use Rattle.ring_laws.specs.Beginnings.{Good}
+use Rattle.ring_laws.specs.Forms.{previous-size, range-xs, range-ys}
+use Rattle.numbers.specs.Reading.{refuse, numberOf, reading}
 use Rattle.numbers.specs.declared.Reading.{Reading}
 use Rattle.numbers.specs.declared.Reading.the-variants.{Value, Refused}
 use Rattle.rings.specs.State.{isCoordinate, faultOf, judgedAs}
@@ -51,7 +52,7 @@ not-one m h e = true≢false (sym (ap (λ (t : Bool). pick t true false) (eq-eqb
 back : (m : ℕ) (p : ℤ) → (m ≡ 1 → ⊥) → m ≡ signed ((unsigned m +ℤ p) -ℤ p)
 back m p h = sym (ap signed (difference-back (unsigned m) p) ∙ signed-unsigned m h)
 
-pub meant-means : (b : Begun) (m : ℕ) → minusZero (stateOf b .due) m ≡ false → Means b m (meant b m)
+pub meant-means : (b : Begun) (m : ℕ) → minusZero (stateOf b .due) m ≡ false → Stores b m (meant b m)
 meant-means (at-layer rs) m h = refl
 meant-means (at-count rs l) m h = refl
 meant-means (at-x rs l k ps) m h = back m (previous (xs ps)) (not-one m h)
@@ -126,31 +127,31 @@ taken len s at (number m c) r v next e q = go (minusZero (s .due) m) refl
   where
     go : (t : Bool) → minusZero (s .due) m ≡ t → Taken s at (number m c) v next
     go true w =
-        let x : Refused 13 at ≡ Value v next = sym (ap (λ (t : Bool). pick t (Refused 13 at) (judgedAs limit s (valueOf s m) at (at + c))) w) ∙ sym e ∙ q in
+        let x : refuse (bad-number at) ≡ Value v next = sym (ap (λ (t : Bool). pick t (refuse (bad-number at)) (judgedAs limit s (valueOf s m) at (at + c))) w) ∙ sym e ∙ q in
         clash (cc)
     go false w =
-        let x = judged-value limit s (valueOf s m) at (at + c) v next (sym (ap (λ (t : Bool). pick t (Refused 13 at) (judgedAs limit s (valueOf s m) at (at + c))) w) ∙ sym e ∙ q) in
+        let x = judged-value limit s (valueOf s m) at (at + c) v next (sym (ap (λ (t : Bool). pick t (refuse (bad-number at)) (judgedAs limit s (valueOf s m) at (at + c))) w) ∙ sym e ∙ q) in
         record { stored = m; count = c; front = refl; whole = w; fine = x .0; value = x .1 .0; place = x .1 .1 }
 
 -- the refusal n with the value p, by what stands at the front
 pub data Left (len : ℕ) (s : State) (at : ℕ) (fr : Front) (n p : ℕ) : Type 0 where
-  absent : fr ≡ cut → n ≡ 12 → p ≡ len → Left len s at fr n p
-  malformed : fr ≡ bad → n ≡ 13 → p ≡ at → Left len s at fr n p
-  minus : (m c : ℕ) → fr ≡ number m c → minusZero (s .due) m ≡ true → n ≡ 13 → p ≡ at → Left len s at fr n p
+  absent : fr ≡ cut → n ≡ numberOf ends-inside → p ≡ len → Left len s at fr n p
+  malformed : fr ≡ bad → n ≡ numberOf bad-number → p ≡ at → Left len s at fr n p
+  minus : (m c : ℕ) → fr ≡ number m c → minusZero (s .due) m ≡ true → n ≡ numberOf bad-number → p ≡ at → Left len s at fr n p
   faulty : (m c : ℕ) → fr ≡ number m c → minusZero (s .due) m ≡ false → (faultOf limit s (valueOf s m) ≡ 0 → ⊥) → n ≡ faultOf limit s (valueOf s m) → p ≡ at → Left len s at fr n p
 
 pub left : (len : ℕ) (s : State) (at : ℕ) (fr : Front) (r : Reading) (n p : ℕ) → r ≡ dueInFile len s at fr → r ≡ Refused n p → Left len s at fr n p
 unfolding dueInFile
-left len s at cut r n p e q = let w : Refused 12 len ≡ Refused n p = sym e ∙ q in absent refl (cc) (cc)
-left len s at bad r n p e q = let w : Refused 13 at ≡ Refused n p = sym e ∙ q in malformed refl (cc) (cc)
+left len s at cut r n p e q = let w : refuse (ends-inside len) ≡ Refused n p = sym e ∙ q in absent refl (cc) (cc)
+left len s at bad r n p e q = let w : refuse (bad-number at) ≡ Refused n p = sym e ∙ q in malformed refl (cc) (cc)
 left len s at (number m c) r n p e q = go (minusZero (s .due) m) refl
   where
     go : (t : Bool) → minusZero (s .due) m ≡ t → Left len s at (number m c) n p
     go true w =
-        let x : Refused 13 at ≡ Refused n p = sym (ap (λ (t : Bool). pick t (Refused 13 at) (judgedAs limit s (valueOf s m) at (at + c))) w) ∙ sym e ∙ q in
+        let x : refuse (bad-number at) ≡ Refused n p = sym (ap (λ (t : Bool). pick t (refuse (bad-number at)) (judgedAs limit s (valueOf s m) at (at + c))) w) ∙ sym e ∙ q in
         minus m c refl w (cc) (cc)
     go false w =
-        let x = judged-refused limit s (valueOf s m) at (at + c) n p (sym (ap (λ (t : Bool). pick t (Refused 13 at) (judgedAs limit s (valueOf s m) at (at + c))) w) ∙ sym e ∙ q) in
+        let x = judged-refused limit s (valueOf s m) at (at + c) n p (sym (ap (λ (t : Bool). pick t (refuse (bad-number at)) (judgedAs limit s (valueOf s m) at (at + c))) w) ∙ sym e ∙ q) in
         faulty m c refl w (x .0) (x .1 .0) (x .1 .1)
 
 -- ---- the code's own steps, after the number r was read
@@ -175,10 +176,10 @@ module _ (len : ℕ) (s : State) (at : ℕ) (bs : List ℕ) (r : Reading) (e : r
         go bad x w = clash (cc)
         go (number m c) x w = let i : m ≡ n = cc in (c, x ∙ ap (λ (k : ℕ). number k c) i, cc)
 
-    pub stored-below : n < 34359738368
+    pub stored-below : n < most five
     stored-below = front-bounds five bs n (stands .0) (stands .1) .0
 
-    pub due-minus : minusZero (s .due) n ≡ true → Refused 13 at ≡ dueInFile len s at (front five bs)
+    pub due-minus : minusZero (s .due) n ≡ true → refuse (bad-number at) ≡ dueInFile len s at (front five bs)
     unfolding dueInFile
     due-minus t = rw (stands .1, t)
 

@@ -17,22 +17,23 @@ use lib.Signed.{mag}
 use lib.IntN.{ℤ}
 use lib.ListN.{length, drop, set, length-append, length-drop, drop-of-length-le}
 use lib.Seq.{sets, length-sets, getD-drop}
-use Rattle.basics.specs.Signed.{keyOf, unkeyOf, key-fits, unkey-key}
-use Rattle.basics.specs.Stores.{sets-snoc, left-over}
+use Rattle.basic_laws.specs.Signed.{keyOf, unkeyOf, key-fits, unkey-key}
+use Rattle.basic_laws.specs.Stores.{sets-snoc, left-over}
 use Rattle.meaning.specs.Numbers.{limit}
-use Rattle.meaning.specs.Answers.{Answer, answer}
+use Rattle.meaning.specs.Answers.{Answer, answer, ends-inside}
 use Rattle.meaning.specs.Rings.{pairsIn}
 use Rattle.meaning.specs.MaskFile.{spelt, five, Stands, Cut, NotShortest, TooLong}
-use Rattle.meaning.specs.Faults.{Begun, at-layer, at-count, at-x, at-y, after, Begins, nothing, more, FileSpells, ListSpells, IsCoordinate, Judged, Absent, Malformed, DueInFile, RingFault}
-use Rattle.ringlaws.specs.Groups.{number, front, Bytes, Found, clash, number-front, cut-front, bad-front, front-cut, front-bad, front-bounds}
-use Rattle.ringlaws.specs.Beginnings.{Fine, fine-x, fine-y, fine-layer, fine-count, count-few, Good, good-begins, length-snoc}
-use Rattle.ringlaws.specs.Forms.{file-begins, list-begins}
-use Rattle.ringlaws.specs.Meet.{stands-front}
-use Rattle.numbers.specs.Reading.{answerOf}
+use Rattle.meaning.specs.Faults.{Begun, at-layer, at-count, at-x, at-y, after, Begins, nothing, more, FileSpells, ListSpells, IsCoordinate, DueJudged, Absent, Malformed, DueInFile, RingFault}
+use Rattle.ring_laws.specs.Groups.{number, front, Bytes, Found, clash, number-front, cut-front, bad-front, front-cut, front-bad, front-bounds}
+use Rattle.ring_laws.specs.Beginnings.{Fine, fine-x, fine-y, fine-layer, fine-count, count-few, Good, good-begins, length-snoc}
+use Rattle.ring_laws.specs.Forms.{file-begins, list-begins}
+use Rattle.ring_laws.specs.Meet.{stands-front}
+use Rattle.numbers.specs.Reading.{refuse}
 use Rattle.numbers.specs.declared.Reading.{Reading}
 use Rattle.numbers.specs.declared.Reading.the-variants.{Value, Refused}
 use Rattle.rings.specs.State.{start, mayEnd, faultOf, nextOf, Sane}
 use Rattle.rings.specs.StateOf.{stateOf, keyed}
+use Rattle.rings.specs.OutcomeLaws.{refuses, refuses-read}
 use Rattle.rings.specs.declared.State.{State}
 use Rattle.rings.proofs.Standing.{Natural, verdict, next-state, sane, mag-below, not-end}
 use Rattle.maskfile.specs.Due.{valueOf, minusZero, dueInFile, liftedOf}
@@ -211,14 +212,14 @@ module _ (f : List ℕ) (out₀ : List ℤ) (s : State) (at n : ℕ) (out : List
                 let i : v ≡ 1 = cc in
                 true≢false (sym (coordinate-minus (w .begun) (t .0)) ∙ subst (λ (j : ℕ). minusZero (stateOf (w .begun) .due) j ≡ false) i here)
 
-            judged : Judged limit (w .begun) (meant (w .begun) v) (length (w .front)) (answer m p)
+            judged : DueJudged limit (w .begun) (meant (w .begun) v) (length (w .front)) (answer m p)
             judged =
-                subst⁻¹ (λ (a : Answer). Judged limit (w .begun) (meant (w .begun) v) (length (w .front)) a) (ap₂ answer (y ∙ fault-is) (u ∙ w .place))
+                subst⁻¹ (λ (a : Answer). DueJudged limit (w .begun) (meant (w .begun) v) (length (w .front)) a) (ap₂ answer (y ∙ fault-is) (u ∙ w .place))
                 (verdict limit (lit≤ tt) (w .begun) (meant (w .begun) v) (length (w .front)) good (meant-natural (w .begun) v) .refused (λ i. g (fault-is ∙ i)))
 
     pub reads-refused : (after-out : List ℤ) → RingsOutcome f out₀ r after-out
     reads-refused after-out =
-        inl (record { number = m; value = p; is = q; fault = subst⁻¹ (λ (x : Reading). RingFault five limit f (answerOf x)) q (record { begun = w .begun; front = w .front; rest = drop at f; is = w .is; begins = w .file; due = due }) })
+        inl (refuses-read (RingFault five limit f) r m p q (record { begun = w .begun; front = w .front; rest = drop at f; is = w .is; begins = w .file; due = due }))
 
   -- ---- the end
 
@@ -236,11 +237,11 @@ module _ (f : List ℕ) (out₀ : List ℤ) (s : State) (at n : ℕ) (out : List
         go (at-layer rs) q t =
             let g = file-begins five limit rs (w .front) (subst (λ (b : Begun). Begins limit (FileSpells five) (spelt five 1) b (w .front)) q (w .file)) in
             let k = list-begins limit rs (w .numbers) (subst (λ (b : Begun). Begins limit ListSpells [] b (w .numbers)) q (w .list)) in
-            inr (record { rings = rs; good = g .0; file = all ∙ g .1; is = ap₂ Value (w .count ∙ ap length (k .1)) (w .place ∙ ap length (sym all)); wrote = w .wrote ∙ ap (sets out₀ 0) (k .1) })
+            inr (record { rings = rs; good = g .0; from = all ∙ g .1; is = ap₂ Value (w .count ∙ ap length (k .1)) (w .place ∙ ap length (sym all)); wrote = w .wrote ∙ ap (sets out₀ 0) (k .1) })
         go (at-count rs l) q t = absurd (false≢true t)
         go (at-x rs l k ps) q t = absurd (false≢true t)
         go (at-y rs l k ps x) q t = absurd (false≢true t)
 
-    pub reads-short : mayEnd (s .due) ≡ false → RingsOutcome f out₀ (Refused 12 (length f)) out
+    pub reads-short : mayEnd (s .due) ≡ false → RingsOutcome f out₀ (refuse (ends-inside (length f))) out
     reads-short e =
-        inl (record { number = 12; value = length f; is = refl; fault = record { begun = w .begun; front = w .front; rest = drop at f; is = w .is; begins = w .file; due = inl ((subst⁻¹ (Cut five) nothing-left (record { continued = tt; short = lit≤ tt }), λ d z. not-end (w .begun) d (subst (λ (t : State). mayEnd (t .due) ≡ false) (w .state) e)), refl) } })
+        inl (refuses (RingFault five limit f) (ends-inside (length f)) (record { begun = w .begun; front = w .front; rest = drop at f; is = w .is; begins = w .file; due = inl ((subst⁻¹ (Cut five) nothing-left (record { continued = tt; short = lit≤ tt }), λ d z. not-end (w .begun) d (subst (λ (t : State). mayEnd (t .due) ≡ false) (w .state) e)), refl) }))

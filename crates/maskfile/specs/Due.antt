@@ -10,7 +10,7 @@ use Prim.Native.Nat.{ℕ, _+_, _-_, _/_, _%_}
 use lib.Dec.{eqb}
 use Rattle.meaning.specs.Numbers.{pick, limit}
 use Rattle.meaning.specs.Answers.{ends-inside, bad-number}
-use Rattle.ringlaws.specs.Groups.{Front, cut, bad, number}
+use Rattle.ring_laws.specs.Groups.{Front, cut, bad, number}
 use Rattle.numbers.specs.Reading.{refuse}
 use Rattle.numbers.specs.declared.Reading.{Reading}
 use Rattle.rings.specs.State.{isCoordinate, judgedAs}

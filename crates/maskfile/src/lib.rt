@@ -7,17 +7,23 @@ ghost use mathlib.Core.Path.{_≡_};
 ghost use Prim.Native.Nat.{_+_, _≤_, _<_};
 ghost use mathlib.Core.List.{_++_};
 ghost use lib.ListN.{length, drop};
-ghost use Rattle.meaning.specs.MaskFile.{spelt, five};
+ghost use Rattle.meaning.specs.MaskFile.{spelt, most, five};
 ghost use Rattle.meaning.specs.Faults.{Read};
 ghost use Rattle.answers.specs.Said.{said};
-ghost use Rattle.ringlaws.specs.Groups.{front};
-ghost use Rattle.rings.specs.State.{Sane};
+ghost use Rattle.ring_laws.specs.Groups.{front};
+ghost use Rattle.rings.specs.State.{greatest, Sane};
 ghost use Rattle.maskfile.specs.Due.{moved, valueOf, minusZero, dueInFile, liftedOf};
-ghost use Rattle.maskfile.specs.Outcome.{Outcome, RingsOutcome};
+ghost use Rattle.maskfile.specs.Outcome.{RingsOutcome, FileOutcome};
+
+// The most bytes of a file.
+const LONGEST: usize = 49152;
+
+// Minus zero, as it would be stored.
+const MINUS_ZERO: u64 = 1;
 
 // The coordinate that lies a stored difference n from p, or 0, which is out of range, where it would lie below that.
 fn moved(p: u64, n: u64) -> u64
-    requires { ⌜ (p ≤ 3221225472) × (n < 34359738368) ⌝ }
+    requires { ⌜ (p ≤ greatest) × (n < most five) ⌝ }
     ensures { λ r. ⌜ r ≡ moved p n ⌝ }
 {
     let d = n / 2;
@@ -32,7 +38,7 @@ fn moved(p: u64, n: u64) -> u64
 
 // The due number that is stored as n.
 fn value_of(s: State, n: u64) -> u64
-    requires { ⌜ (Sane s) × (n < 34359738368) ⌝ }
+    requires { ⌜ (Sane s) × (n < most five) ⌝ }
     ensures { λ r. ⌜ r ≡ valueOf s n ⌝ }
 {
     let due = s.due;
@@ -48,7 +54,7 @@ fn value_of(s: State, n: u64) -> u64
 fn minus_zero(due: Due, n: u64) -> bool
     ensures { λ r. ⌜ r ≡ minusZero due n ⌝ }
 {
-    if n == 1 {
+    if n == MINUS_ZERO {
         return rings::is_coordinate(due);
     }
     false
@@ -59,7 +65,7 @@ fn due_at(file: &[u8], at: usize, s: State) -> Reading
     requires { ⌜ (Sane s) × (at ≤ length (now file)) ⌝ }
     ensures { λ r. ⌜ r ≡ dueInFile (length (now (file .entry))) s at (front five (drop at (now (file .entry)))) ⌝ }
 {
-    let number = numbers::number_at(file, at, 5);
+    let number = numbers::number_at(file, at, numbers::GROUPS);
     let Reading::Value(n, next) = number else {
         return number;
     };
@@ -78,7 +84,7 @@ fn lifted(due: Due, v: u64) -> u64
     if rings::is_coordinate(due) {
         return v;
     }
-    v + 2147483648
+    v + rings::HALF
 }
 
 // Reads the rings, which begin at `from`, and writes their numbers as far as there is room: the value is how many they are.
@@ -109,13 +115,13 @@ fn rings_from(file: &[u8], out: &mut [i32], from: usize) -> Reading
 
 // Reads a file, and writes the numbers of its list as far as there is room.
 fn list_from(file: &[u8], out: &mut [i32]) -> Reading
-    ensures { λ r. ⌜ Outcome (now (file .entry)) (now (out .entry)) r (now (out .exit)) ⌝ }
+    ensures { λ r. ⌜ FileOutcome (now (file .entry)) (now (out .entry)) r (now (out .exit)) ⌝ }
 {
-    let edition = numbers::number_at(file, 0, 5);
+    let edition = numbers::number_at(file, 0, numbers::GROUPS);
     let Reading::Value(number, next) = edition else {
         return edition;
     };
-    if number == 1 {
+    if number == numbers::EDITION {
         return rings_from(file, out, next);
     }
     Reading::Refused(14, 0)
@@ -125,17 +131,17 @@ fn list_from(file: &[u8], out: &mut [i32]) -> Reading
 pub fn read(file: &[u8], rings: &mut [i32]) -> Answer
     ensures { λ r. ⌜ Read (now (file .entry)) (now (rings .entry)) (said r, now (rings .exit)) ⌝ }
 {
-    if 49152 < file.len() {
+    if LONGEST < file.len() {
         return answers::refused(11, 0);
     }
     let mut none = [0i32; 1];
-    let judged = list_from(file, &mut none);
-    let Reading::Value(needed, _) = judged else {
+    let judged = numbers::settled(list_from(file, &mut none), rings.len());
+    let Reading::Value(_, _) = judged else {
         return numbers::answer(judged);
     };
-    if (rings.len() as u64) < needed {
-        return answers::refused(18, needed);
-    }
-    list_from(file, rings);
-    answers::accepted(needed)
+    let made = list_from(file, rings);
+    let Reading::Value(written, _) = made else {
+        return numbers::answer(made);
+    };
+    answers::accepted(written)
 }

@@ -10,14 +10,14 @@ use native.Mathlib.Omega.{arith}
 use lib.Dec.{ltb}
 use lib.IntN.{ℤ, pos, negsuc, natAbs, subℕ, _-ℤ_}
 use borrow.Author.Tests.{ltb-true}
-use Rattle.basics.specs.Signed.{keyOf, sub-pos, sub-neg, sub-same}
+use Rattle.basic_laws.specs.Signed.{keyOf, sub-pos, sub-neg, sub-same}
 use Rattle.meaning.specs.Numbers.{limit}
 use Rattle.meaning.specs.Rings.{xs, ys}
 use Rattle.meaning.specs.MaskFile.{signed}
-use Rattle.meaning.specs.Faults.{Begun, at-layer, at-count, at-x, at-y, previous, Means}
-use Rattle.ringlaws.specs.Differences.{in-range}
-use Rattle.ringlaws.specs.Beginnings.{Fine, fine-x, fine-y, Good}
-use Rattle.ringlaws.specs.Forms.{previous-size, range-xs, range-ys}
+use Rattle.meaning.specs.Faults.{Begun, at-layer, at-count, at-x, at-y, previous, Stores}
+use Rattle.ring_laws.specs.Differences.{in-range}
+use Rattle.ring_laws.specs.Beginnings.{Fine, fine-x, fine-y, Good}
+use Rattle.ring_laws.specs.Forms.{previous-size, range-xs, range-ys}
 use Rattle.rings.specs.StateOf.{stateOf, keyed}
 use Rattle.rings.proofs.Standing.{Natural, zero-in}
 use Rattle.maskwriter.specs.Stored.{difference, storedOf}
@@ -40,7 +40,7 @@ signed-sub v p = go (ltb v p) refl
 pub difference-key : (z p : ℤ) → natAbs z ≤ limit → natAbs p ≤ limit → difference (keyOf p) (keyOf z) ≡ signed (z -ℤ p)
 difference-key z p hz hp = sym (ap signed (sub-keys z p hz hp) ∙ signed-sub (keyOf z) (keyOf p))
 
-pub stored-means : (b : Begun) (z : ℤ) → Good limit b → Natural b z → Fine limit b z → Means b (storedOf (stateOf b) (keyed b z)) z
+pub stored-means : (b : Begun) (z : ℤ) → Good limit b → Natural b z → Fine limit b z → Stores b (storedOf (stateOf b) (keyed b z)) z
 unfolding storedOf
 stored-means (at-layer rs) z g (n, e) f = rw e
 stored-means (at-count rs l) z g (n, e) f = rw e
@@ -49,7 +49,7 @@ stored-means (at-x rs l k ps) z g u f =
 stored-means (at-y rs l k ps x) z g u f =
     difference-key z (previous (ys ps)) (in-range limit z (fine-y limit rs l k ps x z f .0)) (in-range limit (previous (ys ps)) (previous-size limit (pos 0) (ys ps) (zero-in limit) (range-ys limit ps (g .0 .range))))
 
-pub means-stored : (b : Begun) (v w : ℕ) (z : ℤ) → Means b v z → Means b w z → v ≡ w
+pub means-stored : (b : Begun) (v w : ℕ) (z : ℤ) → Stores b v z → Stores b w z → v ≡ w
 means-stored (at-layer rs) v w z p q = let e : pos v ≡ pos w = sym p ∙ q in cc
 means-stored (at-count rs l) v w z p q = let e : pos v ≡ pos w = sym p ∙ q in cc
 means-stored (at-x rs l k ps) v w z p q = p ∙ sym q

@@ -12,20 +12,22 @@ use native.Mathlib.Omega.{arith}
 use lib.IntN.{ℤ, pos}
 use lib.ListN.{length, getD, length-append}
 use lib.Seq.{sets, length-sets}
-use Rattle.basics.specs.Signed.{keyOf}
-use Rattle.basics.specs.Stores.{sets-append}
+use Rattle.basic_laws.specs.Signed.{keyOf}
+use Rattle.basic_laws.specs.Stores.{sets-append}
 use Rattle.meaning.specs.Numbers.{limit}
+use Rattle.meaning.specs.Answers.{ends-inside}
 use Rattle.meaning.specs.MaskFile.{spelt, most, five, bytesOf}
-use Rattle.meaning.specs.Faults.{Begun, at-layer, after, Begins, nothing, more, FileSpells, Means, ListFault}
-use Rattle.ringlaws.specs.Groups.{spelt-most}
-use Rattle.ringlaws.specs.Beginnings.{good-begins}
-use Rattle.ringlaws.specs.Forms.{file-begins, spell-file}
-use Rattle.ringlaws.specs.Calls.{holds}
-use Rattle.numbers.specs.Reading.{answerOf}
+use Rattle.meaning.specs.Faults.{Begun, at-layer, after, Begins, nothing, more, FileSpells, Stores, ListFault}
+use Rattle.ring_laws.specs.Groups.{spelt-most}
+use Rattle.ring_laws.specs.Beginnings.{good-begins}
+use Rattle.ring_laws.specs.Forms.{file-begins, spell-file}
+use Rattle.ring_laws.specs.Calls.{holds}
+use Rattle.numbers.specs.Reading.{refuse}
 use Rattle.numbers.specs.declared.Reading.{Reading}
 use Rattle.numbers.specs.declared.Reading.the-variants.{Value, Refused}
-use Rattle.rings.specs.State.{start, mayEnd, faultOf, nextOf, dueInList, Sane}
-use Rattle.rings.specs.Outcome.{Outcome}
+use Rattle.rings.specs.State.{greatest, start, mayEnd, faultOf, nextOf, dueInList, Sane}
+use Rattle.rings.specs.Outcome.{ListOutcome}
+use Rattle.rings.specs.OutcomeLaws.{refuses, refuses-read}
 use Rattle.rings.specs.declared.State.{State}
 use Rattle.rings.proofs.Standing.{keyed-most}
 use Rattle.rings.proofs.ListWalk.{ListAt, list-at-start, list-sane, list-fault-free, Passed, passed, list-at-next, list-refused, list-over, list-short}
@@ -71,12 +73,12 @@ module _ (entry : List ℕ) (ns : List ℤ) (out₀ : List ℕ) (s : State) (i n
     pub writes-sane : Sane s
     writes-sane = list-sane ns (w .begun) s i (w .at)
 
-    pub writes-most : v ≤ 3221225472
+    pub writes-most : v ≤ greatest
     writes-most = rw (p .value) (keyed-most (w .begun) (getD ns i (pos 0)) (p .fine))
 
-    means : Means (w .begun) (storedOf s v) (getD ns i (pos 0))
+    means : Stores (w .begun) (storedOf s v) (getD ns i (pos 0))
     means =
-        subst⁻¹ (λ (x : ℕ). Means (w .begun) x (getD ns i (pos 0))) (ap₂ storedOf (w .at .state) (p .value))
+        subst⁻¹ (λ (x : ℕ). Stores (w .begun) x (getD ns i (pos 0))) (ap₂ storedOf (w .at .state) (p .value))
         (stored-means (w .begun) (getD ns i (pos 0)) (good-begins (w .file)) (p .natural) (p .fine))
 
     pub writes-fits : storedOf s v < most five
@@ -90,7 +92,7 @@ module _ (entry : List ℕ) (ns : List ℤ) (out₀ : List ℕ) (s : State) (i n
           begun = after (w .begun) (getD ns i (pos 0));
           at = list-at-next ns (w .begun) s i (w .at) lt r v next e q;
           bytes = w .bytes ++ spelt five k;
-          file = subst (Begins limit (FileSpells five) (spelt five 1) (after (w .begun) (getD ns i (pos 0)))) (append-assoc (spelt five 1) (w .bytes) (spelt five k)) (more (getD ns i (pos 0)) (spelt five k) (w .file) (k, subst⁻¹ (λ (u : ℕ). Means (w .begun) u (getD ns i (pos 0))) x means, subst⁻¹ (λ (u : ℕ). u < most five) x writes-fits, refl) (p .fine));
+          file = subst (Begins limit (FileSpells five) (spelt five 1) (after (w .begun) (getD ns i (pos 0)))) (append-assoc (spelt five 1) (w .bytes) (spelt five k)) (more (getD ns i (pos 0)) (spelt five k) (w .file) (k, subst⁻¹ (λ (u : ℕ). Stores (w .begun) u (getD ns i (pos 0))) x means, subst⁻¹ (λ (u : ℕ). u < most five) x writes-fits, refl) (p .fine));
           count = omega (arith, y, w .count, length-append (spelt five 1) (w .bytes), length-append (spelt five 1) (w .bytes ++ spelt five k), length-append (w .bytes) (spelt five k));
           wrote = o ∙ ap₂ (λ (l : List ℕ) (u : ℕ). sets l u (spelt five k)) (w .wrote) place ∙ sets-append (w .bytes) (spelt five k) out₀ (length (spelt five 1));
           bound = omega (arith, y, w .bound, p .place, spelt-most five k);
@@ -99,21 +101,21 @@ module _ (entry : List ℕ) (ns : List ℤ) (out₀ : List ℕ) (s : State) (i n
         place : n ≡ length (spelt five 1) + length (w .bytes)
         place = omega (arith, w .count, length-append (spelt five 1) (w .bytes))
 
-  pub writes-refused : (lt : i < length ns) (r : Reading) (m q : ℕ) (after-out : List ℕ) → r ≡ dueInList limit s (keyOf (getD ns i (pos 0))) i → r ≡ Refused m q → Outcome (bytesOf five) ns entry r after-out
+  pub writes-refused : (lt : i < length ns) (r : Reading) (m q : ℕ) (after-out : List ℕ) → r ≡ dueInList limit s (keyOf (getD ns i (pos 0))) i → r ≡ Refused m q → ListOutcome (bytesOf five) ns entry r after-out
   writes-refused lt r m q after-out e x =
-      inl (record { number = m; value = q; is = x; fault = subst⁻¹ (λ (y : Reading). ListFault limit ns (answerOf y)) x (list-refused ns (w .begun) s i (w .at) lt r m q e x) })
+      inl (refuses-read (ListFault limit ns) r m q x (list-refused ns (w .begun) s i (w .at) lt r m q e x))
 
   module _ (over : length ns ≤ i) where
-    pub writes-fine : mayEnd (s .due) ≡ true → Outcome (bytesOf five) ns entry (Value n i) out
+    pub writes-fine : mayEnd (s .due) ≡ true → ListOutcome (bytesOf five) ns entry (Value n i) out
     writes-fine e =
         let x = list-over ns (w .begun) s i (w .at) over e in
         let g = file-begins five limit (x .0) (spelt five 1 ++ w .bytes) (subst (λ (b : Begun). Begins limit (FileSpells five) (spelt five 1) b (spelt five 1 ++ w .bytes)) (x .1) (w .file)) in
-        inr (record { rings = x .0; good = x .2; list = x .3; is = ap₂ Value (w .count ∙ ap length (g .1)) (omega (arith, w .at .within)); wrote = all ∙ ap (sets entry 0) (g .1) })
+        inr (record { rings = x .0; good = x .2; from = x .3; is = ap₂ Value (w .count ∙ ap length (g .1)) (omega (arith, w .at .within)); wrote = all ∙ ap (sets entry 0) (g .1) })
       where
         all : out ≡ sets entry 0 (spelt five 1 ++ w .bytes)
         all =
             let k : length (spelt five 1) ≡ 0 + length (spelt five 1) = omega arith in
             w .wrote ∙ ap₂ (λ (l : List ℕ) (m : ℕ). sets l m (w .bytes)) edition k ∙ sets-append (spelt five 1) (w .bytes) entry 0
 
-    pub writes-short : mayEnd (s .due) ≡ false → Outcome (bytesOf five) ns entry (Refused 12 (length ns)) out
-    writes-short e = inl (record { number = 12; value = length ns; is = refl; fault = list-short ns (w .begun) s i (w .at) over e })
+    pub writes-short : mayEnd (s .due) ≡ false → ListOutcome (bytesOf five) ns entry (refuse (ends-inside (length ns))) out
+    writes-short e = inl (refuses (ListFault limit ns) (ends-inside (length ns)) (list-short ns (w .begun) s i (w .at) over e))

@@ -52,13 +52,13 @@ Short ns text out o =
     (e : Expr) × Is sum text e × (length out < 4 * length (recordsOf ns e)) × (o ≡ outcome (too-little-room (length (recordsOf ns e))) out)
 
 -- "An accepted call answers 0 with: records (run)"; "The buffer past the last record is untouched."
-abbrev pub Written : List ℤ → List ℕ → List ℤ → Row Outcome
-Written ns text out o =
+abbrev pub Recorded : List ℤ → List ℕ → List ℤ → Row Outcome
+Recorded ns text out o =
     (e : Expr) × Is sum text e
     × (o ≡ outcome (accepted (length (recordsOf ns e))) (numbersOf (recordsOf ns e) ++ drop (4 * length (recordsOf ns e)) out))
 
 unfoldable pub Runs : List ℤ → List ℕ → List ℤ → Outcome → Type 0
-Runs ns text out = First (map (unchanged out) (callRows ns text) ++ (Short ns text out ∷ [])) (Written ns text out)
+Runs ns text out = First (map (unchanged out) (callRows ns text) ++ (Short ns text out ∷ [])) (Recorded ns text out)
 
 -- "The area call takes edges and expression, lends no record room, and refuses as the run does except for 10." "cells (area)"
 unfoldable pub Areas : List ℤ → List ℕ → Answer → Type 0

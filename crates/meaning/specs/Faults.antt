@@ -3,8 +3,8 @@
 --   Begun              what has been read: whole rings, and a ring up to the number that is due
 --   after b z          what has been read after the due number z
 --   Beside zs k z      z, due after the coordinates zs of a ring of k pairs, equals a cyclic neighbour
---   Judged L b z p     the table for the due number z at the place p: 15, 16, 17
---   Means b v z        a file stores z, due after b, as the number v
+--   DueJudged L b z p     the table for the due number z at the place p: 15, 16, 17
+--   Stores b v z        a file stores z, due after b, as the number v
 --   Begins ..          no number of a beginning is faulty
 --   FileFault, ListFault   the first faulty number of a file, of a ring list
 --   Laid made out      the end of a table: the room is too short, or made is written
@@ -21,7 +21,7 @@ use lib.IntN.{ℤ, pos, natAbs, _-ℤ_}
 use lib.ListN.{length, drop}
 use Rattle.meaning.specs.Numbers.{pick, limit, inRange}
 use Rattle.meaning.specs.Answers.{Answer, accepted, Row, given, First, file-too-long, ends-inside, bad-number, other-edition, ring-out-of-range, neighbours-equal, too-many-pairs, room-too-short}
-use Rattle.meaning.specs.Rings.{Pair, pair, Ring, ring, xs, ys, pairsIn, GoodRings, numbersOf, edgesOf}
+use Rattle.meaning.specs.Rings.{Pair, pair, Ring, ring, xs, ys, pairsIn, GoodRings, ringNumbers, ringEdges}
 use Rattle.meaning.specs.MaskFile.{spelt, most, five, signed, bytesOf, longest, Stands, Cut, NotShortest, TooLong}
 
 -- whole rings, then a ring's layer, its k, and its pairs, as far as they have been read
@@ -65,18 +65,18 @@ abbrev pub Beside : List ℤ → ℕ → ℤ → Type 0
 Beside zs k z = ((m : List ℤ) × (zs ≡ m ++ z ∷ [])) ⊎ ((suc (length zs) ≡ k) × ((m : List ℤ) × (zs ≡ z ∷ m)))
 
 -- "in one whole number 13, 14, 15, 16 or 17, as they apply, in that order"
-abbrev pub Judged : ℕ → Begun → ℤ → ℕ → Row Answer
-Judged L (at-layer rs) z p = given (IsLayer z → ⊥) (ring-out-of-range p)
-Judged L (at-count rs l) z p = First (given (IsCount z → ⊥) (ring-out-of-range p) ∷ []) (given (TooMany rs z) (too-many-pairs p))
-Judged L (at-x rs l k ps) z p = First (given (inRange L z ≡ false) (ring-out-of-range p) ∷ []) (given (Beside (xs ps) k z) (neighbours-equal p))
-Judged L (at-y rs l k ps x) z p = First (given (inRange L z ≡ false) (ring-out-of-range p) ∷ []) (given (Beside (ys ps) k z) (neighbours-equal p))
+abbrev pub DueJudged : ℕ → Begun → ℤ → ℕ → Row Answer
+DueJudged L (at-layer rs) z p = given (IsLayer z → ⊥) (ring-out-of-range p)
+DueJudged L (at-count rs l) z p = First (given (IsCount z → ⊥) (ring-out-of-range p) ∷ []) (given (TooMany rs z) (too-many-pairs p))
+DueJudged L (at-x rs l k ps) z p = First (given (inRange L z ≡ false) (ring-out-of-range p) ∷ []) (given (Beside (xs ps) k z) (neighbours-equal p))
+DueJudged L (at-y rs l k ps x) z p = First (given (inRange L z ≡ false) (ring-out-of-range p) ∷ []) (given (Beside (ys ps) k z) (neighbours-equal p))
 
 -- ---- the numbers before it
 
 -- nothing but the start, or one number more, which is spelt w and for which the table has no answer
 pub data Begins {A : Type 0} (L : ℕ) (Spells : Begun → ℤ → List A → Type 0) (start : List A) : Begun → List A → Type 0 where
   nothing : Begins L Spells start (at-layer []) start
-  more : {b : Begun} {l : List A} (z : ℤ) (w : List A) → Begins L Spells start b l → Spells b z w → ((p : ℕ) (a : Answer) → Judged L b z p a → ⊥) → Begins L Spells start (after b z) (l ++ w)
+  more : {b : Begun} {l : List A} (z : ℤ) (w : List A) → Begins L Spells start b l → Spells b z w → ((p : ℕ) (a : Answer) → DueJudged L b z p a → ⊥) → Begins L Spells start (after b z) (l ++ w)
 
 -- "rings to the end of the bytes": a file or a ring list may end after whole rings
 abbrev pub MayEnd : Begun → Type 0
@@ -102,23 +102,23 @@ abbrev pub previous : List ℤ → ℤ
 previous zs = previousOr (pos 0) zs
 
 -- "A ring is a layer, a pair count k, then x1, y1 signed, then for each further pair the signed differences from the previous x and y."
-abbrev pub Means : Begun → ℕ → ℤ → Type 0
-Means (at-layer rs) v z = z ≡ pos v
-Means (at-count rs l) v z = z ≡ pos v
-Means (at-x rs l k ps) v z = v ≡ signed (z -ℤ previous (xs ps))
-Means (at-y rs l k ps x) v z = v ≡ signed (z -ℤ previous (ys ps))
+abbrev pub Stores : Begun → ℕ → ℤ → Type 0
+Stores (at-layer rs) v z = z ≡ pos v
+Stores (at-count rs l) v z = z ≡ pos v
+Stores (at-x rs l k ps) v z = v ≡ signed (z -ℤ previous (xs ps))
+Stores (at-y rs l k ps x) v z = v ≡ signed (z -ℤ previous (ys ps))
 
 -- the bytes w of the number z, due after b
 abbrev pub FileSpells : ℕ → Begun → ℤ → List ℕ → Type 0
-FileSpells G b z w = (v : ℕ) × Means b v z × (v < most G) × (w ≡ spelt G v)
+FileSpells G b z w = (v : ℕ) × Stores b v z × (v < most G) × (w ≡ spelt G v)
 
 -- a whole number stands there, and the table has an answer for what it means
 pub record Valued (G L : ℕ) (b : Begun) (bs : List ℕ) (p : ℕ) (a : Answer) : Type 0 where
   pub number : ℕ
   pub z : ℤ
   pub stands : Stands G number bs
-  pub means : Means b number z
-  pub judged : Judged L b z p a
+  pub means : Stores b number z
+  pub judged : DueJudged L b z p a
 
 -- "a due number that is absent or cut short is 12"; none is due where the bytes end after whole rings
 abbrev pub Absent : ℕ → Begun → List ℕ → Type 0
@@ -161,7 +161,7 @@ ListSpells b z w = w ≡ z ∷ []
 abbrev pub DueInList : ℕ → Begun → List ℤ → ℕ → ℕ → Row Answer
 DueInList L b zs p len =
     First (given ((zs ≡ []) × (MayEnd b → ⊥)) (ends-inside len) ∷ [])
-    (λ a. (z : ℤ) × (rest : List ℤ) × (zs ≡ z ∷ rest) × Judged L b z p a)
+    (λ a. (z : ℤ) × (rest : List ℤ) × (zs ≡ z ∷ rest) × DueJudged L b z p a)
 
 pub record ListFault (L : ℕ) (ns : List ℤ) (a : Answer) : Type 0 where
   pub begun : Begun
@@ -183,16 +183,16 @@ Laid made out =
 unfoldable pub Read : List ℕ → List ℤ → Row (Answer × List ℤ)
 Read f out =
     First (given (longest < length f) (file-too-long, out) ∷ (λ r. FileFault five limit f (r .0) × (r .1 ≡ out)) ∷ [])
-    (λ r. (rs : List Ring) × GoodRings limit rs × (f ≡ bytesOf five rs) × Laid (numbersOf rs) out r)
+    (λ r. (rs : List Ring) × GoodRings limit rs × (f ≡ bytesOf five rs) × Laid (ringNumbers rs) out r)
 
 -- "The writer and the edge maker judge a ring list likewise": make says what a call makes of a good one
 abbrev pub OfList : {B : Type 0} → (List Ring → List B) → List ℤ → List B → Row (Answer × List B)
 OfList make ns out =
     First ((λ r. ListFault limit ns (r .0) × (r .1 ≡ out)) ∷ [])
-    (λ r. (rs : List Ring) × GoodRings limit rs × (ns ≡ numbersOf rs) × Laid (make rs) out r)
+    (λ r. (rs : List Ring) × GoodRings limit rs × (ns ≡ ringNumbers rs) × Laid (make rs) out r)
 
 unfoldable pub Written : List ℤ → List ℕ → Row (Answer × List ℕ)
 Written ns out = OfList (bytesOf five) ns out
 
 unfoldable pub Edged : List ℤ → List ℤ → Row (Answer × List ℤ)
-Edged ns out = OfList edgesOf ns out
+Edged ns out = OfList ringEdges ns out

@@ -4,12 +4,12 @@
 --   digits f n            the decimal digits of n, the first not 0, and none where n is 0; n has at most f of them
 --   decimal n             n in decimal without leading zeros
 --   signedText z          a whole number, with `-` before a negative one
---   line words            the words with one blank between neighbours, and a line feed at the end
---   firstLine a           the first line: the number and the value of the answer a
---   recordLine r          the line of a record: its four numbers
+--   textLine words            the words with one blank between neighbours, and a textLine feed at the end
+--   firstLine a           the first textLine: the number and the value of the answer a
+--   recordLine r          the textLine of a record: its four numbers
 --   recordLines rs        the lines of the records rs
---   areaLine n            the last line: `area` and the number n of cells
---   rest k rs n           what follows the first line of an answer of the number k
+--   areaLine n            the last textLine: `area` and the number n of cells
+--   rest k rs n           what follows the first textLine of an answer of the number k
 --   printed a rs n        the whole text of the answer a, which has the records rs and n inside cells where its number is 0
 --
 -- A text is a list of bytes.
@@ -38,27 +38,27 @@ signedText (pos n) = decimal n
 signedText (negsuc n) = code "-" ∷ decimal (suc n)
 
 -- as the text of the program's example has it
-unfoldable pub line : List (List ℕ) → List ℕ
-line [] = code "\n" ∷ []
-line (w ∷ []) = w ++ (code "\n" ∷ [])
-line (w ∷ v ∷ words) = w ++ (code " " ∷ line (v ∷ words))
+unfoldable pub textLine : List (List ℕ) → List ℕ
+textLine [] = code "\n" ∷ []
+textLine (w ∷ []) = w ++ (code "\n" ∷ [])
+textLine (w ∷ v ∷ words) = w ++ (code " " ∷ textLine (v ∷ words))
 
 -- "It prints the number and the value"
 unfoldable pub firstLine : Answer → List ℕ
-firstLine a = line (decimal (a .number) ∷ decimal (a .value) ∷ [])
+firstLine a = textLine (decimal (a .number) ∷ decimal (a .value) ∷ [])
 
 -- "A record is four numbers: kind, place, from, to."
 unfoldable pub recordLine : Record ℤ → List ℕ
-recordLine (rec kind place from to) = line (decimal kind ∷ signedText place ∷ signedText from ∷ signedText to ∷ [])
+recordLine (rec kind place from to) = textLine (decimal kind ∷ signedText place ∷ signedText from ∷ signedText to ∷ [])
 
 unfoldable pub recordLines : List (Record ℤ) → List ℕ
 recordLines [] = []
 recordLines (r ∷ rs) = recordLine r ++ recordLines rs
 
 unfoldable pub areaLine : ℕ → List ℕ
-areaLine n = line ((code "a" ∷ code "r" ∷ code "e" ∷ code "a" ∷ []) ∷ decimal n ∷ [])
+areaLine n = textLine ((code "a" ∷ code "r" ∷ code "e" ∷ code "a" ∷ []) ∷ decimal n ∷ [])
 
--- "then on 0 each record, then `area` and the cells"; "On a refusal it prints the first line only."
+-- "then on 0 each record, then `area` and the cells"; "On a refusal it prints the first textLine only."
 abbrev pub rest : ℕ → List (Record ℤ) → ℕ → List ℕ
 rest zero rs n = recordLines rs ++ areaLine n
 rest (suc number) rs n = []

@@ -19,7 +19,7 @@ use Rattle.meaning.specs.Numbers.{pick, limit}
 use Rattle.meaning.specs.Answers.{Answer, accepted, Row, given, First, file-too-long, too-little-room}
 use Rattle.meaning.specs.Expression.{Expr, sum, Is}
 use Rattle.meaning.specs.Calls.{recordsOf, areaOf, callRows}
-use Rattle.meaning.specs.Rings.{Ring, GoodRings, edgesOf}
+use Rattle.meaning.specs.Rings.{Ring, GoodRings, ringEdges}
 use Rattle.meaning.specs.MaskFile.{five, bytesOf, longest}
 use Rattle.meaning.specs.Faults.{FileFault}
 use Rattle.meaning.specs.Printed.{firstLine, printed}
@@ -60,4 +60,4 @@ unfoldable pub Prints : List ℕ → Row (List ℕ)
 Prints input =
     First (map refuses (fileRows input))
     (λ out. (rs : List Ring) × GoodRings limit rs × (fileOf input ≡ bytesOf five rs)
-    × First (map refuses (ringRows (edgesOf rs) (textOf input))) (Shown (edgesOf rs) (textOf input)) out)
+    × First (map refuses (ringRows (ringEdges rs) (textOf input))) (Shown (ringEdges rs) (textOf input)) out)

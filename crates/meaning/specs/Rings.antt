@@ -9,8 +9,8 @@
 --   GoodRing L r       a ring that the paper allows, with coordinates from -L to L
 --   pairsIn rs         the pairs of all rings
 --   GoodRings L rs     a ring list that the paper allows
---   numbersOf rs       the ring list in memory
---   edgesOf rs         the numbers of its edges
+--   ringNumbers rs       the ring list in memory
+--   ringEdges rs         the numbers of its edges
 --
 -- The limit is a parameter throughout.
 use mathlib.Core.Path.{_≡_}
@@ -85,18 +85,18 @@ unfoldable pub pairNumbers : List Pair → List ℤ
 pairNumbers [] = []
 pairNumbers (p ∷ ps) = p .x ∷ p .y ∷ pairNumbers ps
 
-unfoldable pub numbersOf : List Ring → List ℤ
-numbersOf [] = []
-numbersOf (r ∷ rs) = pos (r .layer) ∷ pos (length (r .pairs)) ∷ pairNumbers (r .pairs) ++ numbersOf rs
+unfoldable pub ringNumbers : List Ring → List ℤ
+ringNumbers [] = []
+ringNumbers (r ∷ rs) = pos (r .layer) ∷ pos (length (r .pairs)) ∷ pairNumbers (r .pairs) ++ ringNumbers rs
 
--- "Its k edges run at y_i from x_i to x_(i+1), the last back to x1." An edge is "layer, y, from, to"
-abbrev pub edge : ℕ → Pair → Pair → List ℤ
-edge l p q = pos l ∷ p .y ∷ p .x ∷ q .x ∷ []
+-- "Its k edges run at y_i from x_i to x_(i+1), the last back to x1." An side is "layer, y, from, to"
+abbrev pub side : ℕ → Pair → Pair → List ℤ
+side l p q = pos l ∷ p .y ∷ p .x ∷ q .x ∷ []
 
 unfoldable pub edgesBetween : ℕ → List (Pair × Pair) → List ℤ
 edgesBetween l [] = []
-edgesBetween l (n ∷ ns) = edge l (n .0) (n .1) ++ edgesBetween l ns
+edgesBetween l (n ∷ ns) = side l (n .0) (n .1) ++ edgesBetween l ns
 
-unfoldable pub edgesOf : List Ring → List ℤ
-edgesOf [] = []
-edgesOf (r ∷ rs) = edgesBetween (r .layer) (cyclic (r .pairs)) ++ edgesOf rs
+unfoldable pub ringEdges : List Ring → List ℤ
+ringEdges [] = []
+ringEdges (r ∷ rs) = edgesBetween (r .layer) (cyclic (r .pairs)) ++ ringEdges rs

@@ -15,9 +15,10 @@ use lib.Dec.{lit≤}
 use lib.ListN.{length, getD, set, drop, drop-of-length-le}
 use lib.Seq.{drop-cons, sets}
 use borrow.Author.Tests.{eq-eqb, ne-eqb}
+use Rattle.meaning.specs.Answers.{ends-inside, bad-number}
 use Rattle.meaning.specs.MaskFile.{spelt, most}
-use Rattle.ringlaws.specs.Groups.{Front, cut, bad, number, front, continue, clash, front-one, front-more, front-bounds, spelt-one, spelt-more}
-use Rattle.numbers.specs.Reading.{reading, joined}
+use Rattle.ring_laws.specs.Groups.{Front, cut, bad, number, front, continue, clash, front-one, front-more, front-bounds, spelt-one, spelt-more}
+use Rattle.numbers.specs.Reading.{refuse, reading, joined}
 use Rattle.numbers.specs.declared.Reading.{Reading}
 use Rattle.numbers.specs.declared.Reading.the-variants.{Value, Refused}
 
@@ -26,11 +27,11 @@ pub pred : (g : ℕ) → (g ≡ 0 → ⊥) → g ≡ suc (g - 1)
 pred g h = omega arith
 
 module _ (l : List ℕ) (start at g : ℕ) where
-  pub read-none : g ≡ 0 → Refused 13 start ≡ reading (length l) start at (front g (drop at l))
+  pub read-none : g ≡ 0 → refuse (bad-number start) ≡ reading (length l) start at (front g (drop at l))
   unfolding front reading
   read-none e = rw e
 
-  pub read-end : (g ≡ 0 → ⊥) → length l ≤ at → Refused 12 (length l) ≡ reading (length l) start at (front g (drop at l))
+  pub read-end : (g ≡ 0 → ⊥) → length l ≤ at → refuse (ends-inside (length l)) ≡ reading (length l) start at (front g (drop at l))
   unfolding front reading
   read-end e h = rw (drop-of-length-le l h, pred g e)
 
@@ -61,7 +62,7 @@ module _ (b start : ℕ) (rest : Reading) where
   pub join-refused : (n p : ℕ) → rest ≡ Refused n p → rest ≡ joined b start rest
   join-refused n p e = rw e
 
-  pub join-zero : (v next : ℕ) → rest ≡ Value v next → v ≡ 0 → Refused 13 start ≡ joined b start rest
+  pub join-zero : (v next : ℕ) → rest ≡ Value v next → v ≡ 0 → refuse (bad-number start) ≡ joined b start rest
   join-zero v next e z = rw (e, eq-eqb v 0 z)
 
   pub join-value : (v next : ℕ) → rest ≡ Value v next → (v ≡ 0 → ⊥) → Value (b % 128 + 128 * v) next ≡ joined b start rest

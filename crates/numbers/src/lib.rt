@@ -5,9 +5,15 @@ ghost use Prim.Native.Nat.{_+_, _≤_, _<_};
 ghost use lib.ListN.{length, drop, set};
 ghost use lib.Seq.{sets};
 ghost use Rattle.meaning.specs.MaskFile.{spelt, most};
-ghost use Rattle.ringlaws.specs.Groups.{front};
+ghost use Rattle.ring_laws.specs.Groups.{front};
 ghost use Rattle.answers.specs.Said.{said};
-ghost use Rattle.numbers.specs.Reading.{answerOf, reading};
+ghost use Rattle.numbers.specs.Reading.{answerOf, settledOf, reading};
+
+// At most five groups make a number.
+pub const GROUPS: u64 = 5;
+
+// The number that a mask file begins with.
+pub const EDITION: u64 = 1;
 
 // What every reader answers: a value with the place after it, or a refusal's number and value.
 pub enum Reading {
@@ -23,6 +29,19 @@ pub fn answer(r: Reading) -> Answer
         Reading::Value(value, _) => answers::accepted(value),
         Reading::Refused(number, value) => answers::refused(number, value as u64),
     }
+}
+
+// What a call may go on with, whose result has this room: a refusal as it is, 18 with what is needed where the room is too short, else the value.
+pub fn settled(judged: Reading, room: usize) -> Reading
+    ensures { λ r. ⌜ r ≡ settledOf judged room ⌝ }
+{
+    let Reading::Value(needed, _) = judged else {
+        return judged;
+    };
+    if (room as u64) < needed {
+        return Reading::Refused(18, needed as usize);
+    }
+    judged
 }
 
 fn wide(x: u8) -> u64

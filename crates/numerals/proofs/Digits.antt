@@ -14,8 +14,8 @@ use lib.IntN.{ℤ, pos, negsuc, natAbs}
 use lib.Signed.{ltZ}
 use borrow.Author.Tests.{ltb-true}
 use Rattle.meaning.specs.Printed.{decimal, signedText}
-use Rattle.text_laws.specs.Decimals.{decimal-small, decimal-large}
-use Rattle.text_laws.specs.Stores.{Written, and-then, as-text}
+use Rattle.printed_laws.specs.Decimals.{decimal-small, decimal-large}
+use Rattle.printed_laws.specs.Stores.{Written, and-then, as-text}
 
 pub first-digit : {l m : List ℕ} {i j : ℕ} (n : ℕ) → n < 10 → Written l i ((48 + n) ∷ []) m j → Written l i (decimal n) m j
 first-digit n h p = as-text (sym (decimal-small n h)) p

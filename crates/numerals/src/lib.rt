@@ -5,7 +5,7 @@ ghost use Prim.Native.Nat.{_+_, _≤_, _<_};
 ghost use lib.IntN.{natAbs};
 ghost use lib.ListN.{length};
 ghost use Rattle.meaning.specs.Printed.{decimal, signedText};
-ghost use Rattle.text_laws.specs.Stores.{Written};
+ghost use Rattle.printed_laws.specs.Stores.{Written};
 
 // One byte.
 pub fn byte(out: &mut [u8], at: usize, b: u8) -> usize

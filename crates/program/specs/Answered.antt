@@ -15,16 +15,16 @@ use Rattle.meaning.specs.Numbers.{limit}
 use Rattle.meaning.specs.Answers.{Answer, accepted, Row, First, file-too-long, too-little-room}
 use Rattle.meaning.specs.Expression.{Expr}
 use Rattle.meaning.specs.Calls.{recordsOf, areaOf, callRows}
-use Rattle.meaning.specs.Rings.{Ring, edgesOf}
+use Rattle.meaning.specs.Rings.{Ring, ringEdges}
 use Rattle.meaning.specs.MaskFile.{five, longest}
 use Rattle.meaning.specs.Printed.{firstLine, printed}
 use Rattle.meaning.specs.Program.{textOf, fileOf, refuses, fileRows, NoRoom, ringRows, Shown, Prints}
-use Rattle.basics.specs.Tables.{Single, Singles, single-given, one-answer, singles-append}
+use Rattle.basic_laws.specs.Tables.{Single, Singles, single-given, one-answer, singles-append}
 use Rattle.expression_laws.specs.Meanings.{one-expression}
-use Rattle.demands.specs.Judging.{call-single}
-use Rattle.ringlaws.specs.Calls.{some, holds, file-fault-one}
-use Rattle.maskcalls.specs.Promises.{told-by-file}
-use Rattle.text_laws.specs.Stores.{Front, one-front}
+use Rattle.call_laws.specs.Judging.{call-single}
+use Rattle.ring_laws.specs.Calls.{some, holds, file-fault-one}
+use Rattle.mask_laws.specs.Promises.{told-by-file}
+use Rattle.printed_laws.specs.Stores.{Front, one-front}
 
 pub record Answered (P : Row (List ℕ)) (before after : List ℕ) (n : ℕ) : Type 0 where
   pub text : List ℕ
@@ -61,7 +61,7 @@ unfolding Prints
 one-printed input =
     one-answer (map refuses (fileRows input)) _
     (refuses-single (fileRows input) (single-given (65536 < length input) file-too-long, (single-given (longest < length (fileOf input)) file-too-long, (file-fault-one five limit some holds (fileOf input), tt))))
-    (λ t u x y. edges-one (edgesOf (y .0)) (textOf input) t u (subst (λ (rs : List Ring). First (map refuses (ringRows (edgesOf rs) (textOf input))) (Shown (edgesOf rs) (textOf input)) t) (told-by-file (x .0) (y .0) (x .1) (y .1) (sym (x .2) ∙ y .2)) (x .3)) (y .3))
+    (λ t u x y. edges-one (ringEdges (y .0)) (textOf input) t u (subst (λ (rs : List Ring). First (map refuses (ringRows (ringEdges rs) (textOf input))) (Shown (ringEdges rs) (textOf input)) t) (told-by-file (x .0) (y .0) (x .1) (y .1) (sym (x .2) ∙ y .2)) (x .3)) (y .3))
 
 pub one-answered : (input before a b : List ℕ) (m n : ℕ) → Answered (Prints input) before a m → Answered (Prints input) before b n → (a ≡ b) × (m ≡ n)
 one-answered input before a b m n p q =

@@ -14,14 +14,14 @@ use lib.Seq.{take-at}
 use Rattle.meaning.specs.Answers.{Answer, answer, accepted, Row, First}
 use Rattle.meaning.specs.Expression.{Expr}
 use Rattle.meaning.specs.Records.{Record, rec, numbersOf}
-use Rattle.meaning.specs.Calls.{recordsOf, areaOf, Outcome, outcome, unchanged, callRows, Short, Written, Runs, Areas}
+use Rattle.meaning.specs.Calls.{recordsOf, areaOf, Outcome, outcome, unchanged, callRows, Short, Recorded, Runs, Areas}
 use Rattle.meaning.specs.Printed.{firstLine, printed}
 use Rattle.meaning.specs.Program.{refuses, NoRoom, Shown}
-use Rattle.basics.specs.Tables.{Silent}
+use Rattle.basic_laws.specs.Tables.{Silent}
 use Rattle.expression_laws.specs.Meanings.{one-expression}
-use Rattle.text_laws.specs.Lines.{acceptedText, printed-accepted}
-use Rattle.demands.specs.Judging.{call-silent, AcceptedRun, run-accepted, one-area}
-use Rattle.demands.specs.Rows.{area-given}
+use Rattle.printed_laws.specs.Lines.{acceptedText, printed-accepted}
+use Rattle.call_laws.specs.Judging.{call-silent, AcceptedRun, run-accepted, one-area}
+use Rattle.call_laws.specs.Refusals.{area-given}
 use Rattle.program.specs.Parts.{OfEdges}
 
 numbers-length : (rs : List (Record ℤ)) → length (numbersOf rs) ≡ 4 * length rs
@@ -34,7 +34,7 @@ shown-text v ns n rs m a b c = rw (a, b, c) (printed-accepted (length rs) rs m)
 
 -- the run is lent room for the numbers of 2,048 records
 module _ (ns : List ℤ) (text : List ℕ) (out after : List ℤ) (room : length out ≡ 8192) where
-  rows-refuse : (rows : List (Row Answer)) (k v : ℕ) → (k ≡ 0 → ⊥) → First (map (unchanged out) rows ++ (Short ns text out ∷ [])) (Written ns text out) (outcome (answer k v) after)
+  rows-refuse : (rows : List (Row Answer)) (k v : ℕ) → (k ≡ 0 → ⊥) → First (map (unchanged out) rows ++ (Short ns text out ∷ [])) (Recorded ns text out) (outcome (answer k v) after)
       → First (map refuses (rows ++ (NoRoom ns text ∷ []))) (Shown ns text) (firstLine (answer k v))
   rows-refuse [] k v n (inl (e, is, h, o)) = inl (answer k v, (e, is, omega arith, ap (λ (q : Outcome). q .answer) o), refl)
   rows-refuse [] k v n (inr (s, (e, is, o))) = absurd (n (ap (λ (q : Outcome). q .answer .number) o))

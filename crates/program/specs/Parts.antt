@@ -12,7 +12,7 @@ use lib.IntN.{ℤ}
 use lib.ListN.{length}
 use Rattle.meaning.specs.Numbers.{limit}
 use Rattle.meaning.specs.Answers.{Row, given, First, file-too-long}
-use Rattle.meaning.specs.Rings.{Ring, GoodRings, edgesOf}
+use Rattle.meaning.specs.Rings.{Ring, GoodRings, ringEdges}
 use Rattle.meaning.specs.MaskFile.{five, bytesOf, longest}
 use Rattle.meaning.specs.Faults.{FileFault}
 use Rattle.meaning.specs.Printed.{firstLine}
@@ -24,7 +24,7 @@ OfEdges ns text = First (map refuses (ringRows ns text)) (Shown ns text)
 unfoldable pub OfFile : List ℕ → List ℕ → Row (List ℕ)
 OfFile file text =
     First (map refuses (given (longest < length file) file-too-long ∷ FileFault five limit file ∷ []))
-    (λ out. (rs : List Ring) × GoodRings limit rs × (file ≡ bytesOf five rs) × OfEdges (edgesOf rs) text out)
+    (λ out. (rs : List Ring) × GoodRings limit rs × (file ≡ bytesOf five rs) × OfEdges (ringEdges rs) text out)
 
 pub printed-long : (input : List ℕ) → 65536 < length input → Prints input (firstLine file-too-long)
 unfolding Prints

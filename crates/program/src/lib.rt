@@ -1,4 +1,5 @@
 // What the program does between reading and writing: input bytes to output bytes.
+use answers::Answer;
 ghost use mathlib.Core.Path.{_≡_};
 ghost use lib.ListN.{length};
 ghost use Rattle.meaning.specs.Program.{textOf, Prints};
@@ -11,7 +12,7 @@ const LONGEST: usize = 65536;
 // The numbers of the records for which there is room: 2,048 records.
 const ROOM: usize = 8192;
 
-// The bytes of the longest output: see text::accepted.
+// The bytes of the longest output: see printed::accepted.
 pub const OUTPUT: usize = 98353;
 
 // The place of the first line feed, or the length.
@@ -28,18 +29,18 @@ fn line_end(input: &[u8]) -> usize
     i
 }
 
-// The text of the answer to an expression over an edge list.
+// The text of the answer to an expression over an edge list: records and area from one walk.
 fn answer_edges(edges: &[i32], text: &[u8], output: &mut [u8; OUTPUT]) -> usize
     ensures { λ r. ⌜ Answered (OfEdges (now (edges .entry)) (now (text .entry))) (now (output .entry)) (now (output .exit)) r ⌝ }
 {
     let mut records = [0i32; ROOM];
-    let run = engine::run(edges, text, &mut records);
+    let walked = engine::walk(edges, text, &mut records);
+    let run: Answer = walked.answer;
     if run.number != 0 {
-        return text::refused(output, run.number, run.value);
+        return printed::refused(output, run.number, run.value);
     }
-    let area = engine::area(edges, text);
     let n = run.value as usize * 4;
-    text::accepted(output, &records[0..n], run.value, area.value)
+    printed::accepted(output, &records[0..n], run.value, walked.cells)
 }
 
 // The text of the answer to an expression over a mask file.
@@ -49,7 +50,7 @@ fn answer_file(file: &[u8], text: &[u8], output: &mut [u8; OUTPUT]) -> usize
     let mut rings = [0i32; 12288];
     let read = maskfile::read(file, &mut rings);
     if read.number != 0 {
-        return text::refused(output, read.number, read.value);
+        return printed::refused(output, read.number, read.value);
     }
     let n = read.value as usize;
     let mut edges = [0i32; 16384];
@@ -63,7 +64,7 @@ pub fn answer(input: &[u8], output: &mut [u8; OUTPUT]) -> usize
     ensures { λ r. ⌜ Answered (Prints (now (input .entry))) (now (output .entry)) (now (output .exit)) r ⌝ }
 {
     if LONGEST < input.len() {
-        return text::refused(output, 11, 0);
+        return printed::refused(output, 11, 0);
     }
     let end = line_end(input);
     if end == input.len() {

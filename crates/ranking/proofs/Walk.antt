@@ -6,7 +6,7 @@ use Prim.Native.Nat.{ℕ, _+_, _-_, _<_, _≤_}
 use native.Mathlib.Omega.{arith}
 use lib.ListN.{length, getD, set, length-set}
 use lib.Seq.{getD-set-same, getD-set-other}
-use Rattle.sums.specs.Laws.{after-set, below-or}
+use Rattle.sum_laws.specs.Laws.{after-set, below-or}
 use native.Mathlib.Nat.{eq-or-lt-of-le}
 use Rattle.words.specs.Words.{placeOf, valueOf, value-up}
 use Rattle.ranking.specs.Ranked.{Rankable, Has, Ranked}

@@ -9,7 +9,7 @@ use mathlib.Core.Logic.{_≢_}
 use mathlib.Core.List.{List}
 use Prim.Native.Nat.{ℕ, _<_, _≤_}
 use lib.ListN.{length, getD}
-use Rattle.sums.specs.Sums.{Ascending}
+use Rattle.sum_laws.specs.Sums.{Ascending}
 use Rattle.words.specs.Words.{placeOf, valueOf}
 
 pub record Rankable (base : ℕ) (ws : List ℕ) (n : ℕ) : Type 0 where

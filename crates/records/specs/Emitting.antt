@@ -1,8 +1,8 @@
 -- Laws of emitting. Assumes nothing.
 --
---   emitted-fits       where there is room for all: the records' numbers, and the rest as it was
+--   emitted-from   where there is room for all: the records' numbers, and the rest as it was
 --   length-numbers, numbers-append, length-emitted
---   Left, left-all, left-one, left-less, left-none   a loop that emits: what is left to emit, from here, comes to what was to be emitted from the start
+--   Left, left-all, left-one, left-none   a loop that emits: what is left to emit, from here, comes to what was to be emitted from the start
 use Prim.Native.Nat.{ℕ, suc, _+_, _*_, _/_, _≤_, _<_}
 use mathlib.Core.Path.{_≡_, refl, sym, ap, _∙_}
 use mathlib.Core.List.{List, [], _∷_, _++_, append-assoc}
@@ -69,7 +69,7 @@ four-long : (r : Record ℕ) → length (numbers (r ∷ [])) ≡ 4
 unfolding numbers numbersOf
 four-long (rec k p f t) = refl
 
-emitted-from : (p q : List ℤ) (n : ℕ) (rs : List (Record ℕ)) → length p ≡ n * 4 → length rs * 4 ≤ length q → emitted (p ++ q) n rs ≡ p ++ (numbers rs ++ drop (length rs * 4) q)
+pub emitted-from : (p q : List ℤ) (n : ℕ) (rs : List (Record ℕ)) → length p ≡ n * 4 → length rs * 4 ≤ length q → emitted (p ++ q) n rs ≡ p ++ (numbers rs ++ drop (length rs * 4) q)
 unfolding emitted
 emitted-from p q n [] e h = unfold numbers numbersOf in refl
 emitted-from p [] n (r ∷ rs) e h = absurd (omega arith)
@@ -82,9 +82,6 @@ emitted-from p (x₀ ∷ x₁ ∷ x₂ ∷ x₃ ∷ q) n (r ∷ rs) e h =
     let four : suc (length rs) * 4 ≡ suc (suc (suc (suc (length rs * 4)))) = omega arith in
     rw (put-from p q x₀ x₁ x₂ x₃ n r e, ← append-assoc p (numbers (r ∷ [])) q, four, numbers-cons r rs, append-assoc (numbers (r ∷ [])) (numbers rs))
     (emitted-from m q (n + 1) rs long (omega arith) ∙ append-assoc p (numbers (r ∷ [])) (numbers rs ++ drop (length rs * 4) q))
-
-pub emitted-fits : (out : List ℤ) (rs : List (Record ℕ)) → length rs * 4 ≤ length out → emitted out 0 rs ≡ numbers rs ++ drop (length rs * 4) out
-emitted-fits out rs h = emitted-from [] out 0 rs refl h
 
 pub length-numbers : (rs : List (Record ℕ)) → length (numbers rs) ≡ length rs * 4
 length-numbers [] = unfold numbers numbersOf in refl
@@ -102,13 +99,6 @@ pub record Left (out₀ : List ℤ) (n₀ : ℕ) (all : List (Record ℕ)) (out 
 
 pub left-all : (out : List ℤ) (n : ℕ) (rs : List (Record ℕ)) → Left out n rs out n rs
 left-all out n rs = record { list = refl; count = refl }
-
-pub left-less : {out₀ out out′ : List ℤ} {n₀ n n′ : ℕ} {all ts rest : List (Record ℕ)} → Left out₀ n₀ all out n (ts ++ rest) → Emitted out n ts out′ n′ → Left out₀ n₀ all out′ n′ rest
-left-less {out₀} {out} {out′} {n₀} {n} {n′} {all} {ts} {rest} l e =
-    record {
-      list = rw (e .list, e .count) (sym (emitted-append out n ts rest) ∙ l .list);
-      count = omega (arith, l .count, e .count, length-append ts rest);
-    }
 
 pub left-one : {out₀ out out′ : List ℤ} {n₀ n : ℕ} {all rest : List (Record ℕ)} (r : Record ℕ) → Left out₀ n₀ all out n (r ∷ rest) → out′ ≡ putAt out n r → Left out₀ n₀ all out′ (n + 1) rest
 unfolding emitted

@@ -12,7 +12,7 @@ use lib.Dec.{ltb}
 use lib.IntN.{ℤ, pos}
 use Rattle.meaning.specs.Numbers.{limit, step, pick}
 use Rattle.meaning.specs.Records.{Record, rec, numbersOf}
-use Rattle.basics.specs.Steps.{lowered}
+use Rattle.basic_laws.specs.Steps.{lowered}
 
 unfoldable pub numbers : List (Record ℕ) → List ℤ
 numbers rs = numbersOf (map (lowered limit) rs)

@@ -7,7 +7,7 @@ ghost use Rattle.meaning.specs.Records.{rec};
 ghost use Rattle.records.specs.Put.{storeAt, putAt, RecordOk};
 
 // The coordinate that stands u steps above the least one.
-fn coordinate(u: u32) -> i32
+pub fn coordinate(u: u32) -> i32
     requires { ⌜ u ≤ 2147483648 ⌝ }
     ensures { λ r. ⌜ r ≡ step limit u ⌝ }
 {

@@ -4,7 +4,7 @@
 --   ends-begins, ends-on, ends-refused, ends-fine, ends-short   the start, a number, a refusal, the end
 --   ends-next, ends-fault, ends-sane, ends-most   what the code asks of a number
 --   none-ended, x-ended, y-ended, four-stores     what the code writes at a number
-use mathlib.Core.Path.{_≡_, refl, sym, ap, ap₂, subst⁻¹, _∙_}
+use mathlib.Core.Path.{_≡_, refl, sym, ap, ap₂, _∙_}
 use mathlib.Core.Bool.{true, false}
 use mathlib.Core.Logic.{inl, inr}
 use mathlib.Core.List.{List, [], _++_}
@@ -15,17 +15,19 @@ use lib.IntN.{ℤ, pos}
 use lib.ListN.{length, set, getD, length-append}
 use lib.Seq.{sets, length-sets}
 use borrow.Author.Tests.{eq-eqb, ne-eqb}
-use Rattle.basics.specs.Signed.{keyOf, unkeyOf, sub-pos}
-use Rattle.basics.specs.Stores.{sets-append}
+use Rattle.basic_laws.specs.Signed.{keyOf, unkeyOf, sub-pos}
+use Rattle.basic_laws.specs.Stores.{sets-append}
 use Rattle.meaning.specs.Numbers.{limit}
-use Rattle.meaning.specs.Rings.{edgesOf}
+use Rattle.meaning.specs.Answers.{ends-inside}
+use Rattle.meaning.specs.Rings.{ringEdges}
 use Rattle.meaning.specs.Faults.{Begun, at-layer, after, ListFault}
-use Rattle.ringlaws.specs.Beginnings.{good-begins}
-use Rattle.numbers.specs.Reading.{answerOf}
+use Rattle.ring_laws.specs.Beginnings.{good-begins}
+use Rattle.numbers.specs.Reading.{refuse}
 use Rattle.numbers.specs.declared.Reading.{Reading}
 use Rattle.numbers.specs.declared.Reading.the-variants.{Value, Refused}
-use Rattle.rings.specs.State.{start, mayEnd, faultOf, nextOf, dueInList, Sane}
-use Rattle.rings.specs.Outcome.{Outcome}
+use Rattle.rings.specs.State.{greatest, start, mayEnd, faultOf, nextOf, dueInList, Sane}
+use Rattle.rings.specs.Outcome.{ListOutcome}
+use Rattle.rings.specs.OutcomeLaws.{refuses, refuses-read}
 use Rattle.rings.specs.declared.Due.{Due}
 use Rattle.rings.specs.declared.Due.the-variants.{X, Y}
 use Rattle.rings.specs.declared.State.{State}
@@ -79,7 +81,7 @@ pub record Ends (ns out₀ : List ℤ) (s : State) (i n : ℕ) (out : List ℤ) 
   pub bound : n ≤ 4 * i
 
 pub ends-begins : (ns out : List ℤ) → Ends ns out (start 4096) 0 0 out
-unfolding edgesOf
+unfolding ringEdges
 ends-begins ns out = record { begun = at-layer []; at = list-at-start ns; count = refl; wrote = refl; bound = omega arith }
 
 module _ (ns out₀ : List ℤ) (s : State) (i n : ℕ) (out : List ℤ) (w : Ends ns out₀ s i n out) where
@@ -99,7 +101,7 @@ module _ (ns out₀ : List ℤ) (s : State) (i n : ℕ) (out : List ℤ) (w : En
     pub ends-sane : Sane s
     ends-sane = list-sane ns (w .begun) s i (w .at)
 
-    pub ends-most : v ≤ 3221225472
+    pub ends-most : v ≤ greatest
     ends-most = rw (p .value) (keyed-most (w .begun) (getD ns i (pos 0)) (p .fine))
 
     pub ends-on : (m : ℕ) (after-out : List ℤ) → m ≡ n + length (ended s v) → after-out ≡ sets out n (ended s v) → Ends ns out₀ (nextOf s v) next m after-out
@@ -120,16 +122,16 @@ module _ (ns out₀ : List ℤ) (s : State) (i n : ℕ) (out : List ℤ) (w : En
         place : n ≡ 0 + length (edgesBegun (w .begun))
         place = omega (arith, w .count)
 
-  pub ends-refused : (lt : i < length ns) (r : Reading) (m q : ℕ) (after-out : List ℤ) → r ≡ dueInList limit s (keyOf (getD ns i (pos 0))) i → r ≡ Refused m q → Outcome edgesOf ns out₀ r after-out
+  pub ends-refused : (lt : i < length ns) (r : Reading) (m q : ℕ) (after-out : List ℤ) → r ≡ dueInList limit s (keyOf (getD ns i (pos 0))) i → r ≡ Refused m q → ListOutcome ringEdges ns out₀ r after-out
   ends-refused lt r m q after-out e x =
-      inl (record { number = m; value = q; is = x; fault = subst⁻¹ (λ (y : Reading). ListFault limit ns (answerOf y)) x (list-refused ns (w .begun) s i (w .at) lt r m q e x) })
+      inl (refuses-read (ListFault limit ns) r m q x (list-refused ns (w .begun) s i (w .at) lt r m q e x))
 
   module _ (over : length ns ≤ i) where
-    pub ends-fine : mayEnd (s .due) ≡ true → Outcome edgesOf ns out₀ (Value n i) out
+    pub ends-fine : mayEnd (s .due) ≡ true → ListOutcome ringEdges ns out₀ (Value n i) out
     ends-fine e =
         let x = list-over ns (w .begun) s i (w .at) over e in
-        let g : edgesBegun (w .begun) ≡ edgesOf (x .0) = ap edgesBegun (x .1) in
-        inr (record { rings = x .0; good = x .2; list = x .3; is = ap₂ Value (w .count ∙ ap length g) (omega (arith, w .at .within)); wrote = w .wrote ∙ ap (sets out₀ 0) g })
+        let g : edgesBegun (w .begun) ≡ ringEdges (x .0) = ap edgesBegun (x .1) in
+        inr (record { rings = x .0; good = x .2; from = x .3; is = ap₂ Value (w .count ∙ ap length g) (omega (arith, w .at .within)); wrote = w .wrote ∙ ap (sets out₀ 0) g })
 
-    pub ends-short : mayEnd (s .due) ≡ false → Outcome edgesOf ns out₀ (Refused 12 (length ns)) out
-    ends-short e = inl (record { number = 12; value = length ns; is = refl; fault = list-short ns (w .begun) s i (w .at) over e })
+    pub ends-short : mayEnd (s .due) ≡ false → ListOutcome ringEdges ns out₀ (refuse (ends-inside (length ns))) out
+    ends-short e = inl (refuses (ListFault limit ns) (ends-inside (length ns)) (list-short ns (w .begun) s i (w .at) over e))

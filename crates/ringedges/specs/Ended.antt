@@ -7,7 +7,7 @@ use mathlib.Core.List.{List, [], _∷_}
 use Prim.Native.Nat.{ℕ}
 use lib.Dec.{eqb}
 use lib.IntN.{ℤ, pos}
-use Rattle.basics.specs.Signed.{unkeyOf}
+use Rattle.basic_laws.specs.Signed.{unkeyOf}
 use Rattle.meaning.specs.Numbers.{pick}
 use Rattle.rings.specs.declared.Due.{Due}
 use Rattle.rings.specs.declared.Due.the-variants.{Layer, Count, X, Y}

@@ -7,11 +7,11 @@ ghost use mathlib.Core.Path.{_≡_};
 ghost use Prim.Native.Nat.{_+_, _≤_, _<_};
 ghost use lib.ListN.{length};
 ghost use lib.Seq.{sets};
-ghost use Rattle.meaning.specs.Rings.{edgesOf};
+ghost use Rattle.meaning.specs.Rings.{ringEdges};
 ghost use Rattle.meaning.specs.Faults.{Edged};
 ghost use Rattle.answers.specs.Said.{said};
-ghost use Rattle.rings.specs.State.{Sane};
-ghost use Rattle.rings.specs.Outcome.{Outcome};
+ghost use Rattle.rings.specs.State.{greatest, Sane};
+ghost use Rattle.rings.specs.Outcome.{ListOutcome};
 ghost use Rattle.ringedges.specs.Ended.{edgeAt, ended};
 
 // Writes an edge at n, as far as there is room, and returns the place after it.
@@ -19,7 +19,7 @@ fn put_edge(out: &mut [i32], n: usize, layer: u64, y: u64, from: u64, to: u64) -
     requires { ⌜ (layer ≤ 7) × ((y < 4294967296) × ((from < 4294967296) × ((to < 4294967296) × (n ≤ 18446744073709551611)))) ⌝ }
     ensures { λ r. ⌜ (r ≡ n + 4) × (now (out .exit) ≡ sets (now (out .entry)) n (edgeAt layer y from to)) ⌝ }
 {
-    rings::put(out, n, layer + 2147483648);
+    rings::put(out, n, layer + rings::HALF);
     rings::put(out, n + 1, y);
     rings::put(out, n + 2, from);
     rings::put(out, n + 3, to);
@@ -28,7 +28,7 @@ fn put_edge(out: &mut [i32], n: usize, layer: u64, y: u64, from: u64, to: u64) -
 
 // Writes the edge that the due number v ends, if it ends one.
 fn put_ended(out: &mut [i32], n: usize, s: State, v: u64) -> usize
-    requires { ⌜ (Sane s) × ((v ≤ 3221225472) × (n ≤ 18446744073709551611)) ⌝ }
+    requires { ⌜ (Sane s) × ((v ≤ greatest) × (n ≤ 18446744073709551611)) ⌝ }
     ensures { λ r. ⌜ (r ≡ n + length (ended s v)) × (now (out .exit) ≡ sets (now (out .entry)) n (ended s v)) ⌝ }
 {
     let due = s.due;
@@ -53,7 +53,7 @@ fn put_ended(out: &mut [i32], n: usize, s: State, v: u64) -> usize
 
 // Goes through a ring list, and writes its edges as far as there is room: the value is how many numbers they are.
 fn edges_from(list: &[i32], out: &mut [i32]) -> Reading
-    ensures { λ r. ⌜ Outcome edgesOf (now (list .entry)) (now (out .entry)) r (now (out .exit)) ⌝ }
+    ensures { λ r. ⌜ ListOutcome ringEdges (now (list .entry)) (now (out .entry)) r (now (out .exit)) ⌝ }
 {
     let mut s = rings::begin();
     let mut i: usize = 0;
@@ -79,13 +79,13 @@ pub fn edges_of(rings: &[i32], edges: &mut [i32]) -> Answer
     ensures { λ r. ⌜ Edged (now (rings .entry)) (now (edges .entry)) (said r, now (edges .exit)) ⌝ }
 {
     let mut none = [0i32; 1];
-    let judged = edges_from(rings, &mut none);
-    let Reading::Value(needed, _) = judged else {
+    let judged = numbers::settled(edges_from(rings, &mut none), edges.len());
+    let Reading::Value(_, _) = judged else {
         return numbers::answer(judged);
     };
-    if (edges.len() as u64) < needed {
-        return answers::refused(18, needed);
-    }
-    edges_from(rings, edges);
-    answers::accepted(needed)
+    let made = edges_from(rings, edges);
+    let Reading::Value(written, _) = made else {
+        return numbers::answer(made);
+    };
+    answers::accepted(written)
 }

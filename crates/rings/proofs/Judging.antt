@@ -3,7 +3,7 @@ use mathlib.Core.Path.{_≡_}
 use Prim.Native.Nat.{ℕ}
 use native.Mathlib.Decide.{ℕ-discrete}
 use borrow.Author.Tests.{eq-eqb, ne-eqb}
-use Rattle.ringlaws.specs.Groups.{clash}
+use Rattle.ring_laws.specs.Groups.{clash}
 use Rattle.numbers.specs.declared.Reading.the-variants.{Value, Refused}
 use Rattle.rings.specs.State.{faultOf, judgedAs}
 use Rattle.rings.specs.declared.State.{State}

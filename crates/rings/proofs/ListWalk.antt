@@ -1,4 +1,4 @@
--- The way through a ring list, number by number, and the whole call on one. Assumes nothing.
+-- The way through a ring list, number by number. Assumes nothing.
 --
 --   ListAt ns b s i   the numbers before i are the beginning b, with no fault, and s is the state after them
 --   list-at-start     before the first number
@@ -7,7 +7,6 @@
 --   list-at-next      one number further
 --   list-refused      a refusal on the way
 --   list-over, list-short   the end of the list
---   call-refused, call-room, call-done   the table of a call by its outcome
 use mathlib.Core.Path.{_≡_, refl, sym, ap, ap₂, subst, subst⁻¹, _∙_}
 use mathlib.Core.Bool.{true, false, false≢true}
 use mathlib.Core.Logic.{inl, inr}
@@ -20,23 +19,19 @@ use lib.IntN.{ℤ, pos, negsuc}
 use lib.ListN.{length, getD, take, drop, take-append-drop, drop-of-length-le}
 use lib.Seq.{take-suc, take-all, drop-cons, length-take-le}
 use borrow.Author.Tests.{lt-ltb, le-ltb}
-use Rattle.basics.specs.Signed.{keyOf}
-use Rattle.basics.specs.Stores.{sets-all}
+use Rattle.basic_laws.specs.Signed.{keyOf}
 use Rattle.meaning.specs.Numbers.{limit}
-use Rattle.meaning.specs.Answers.{Answer, answer, accepted, room-too-short}
-use Rattle.meaning.specs.Rings.{Ring, GoodRings, pairsIn, numbersOf}
-use Rattle.meaning.specs.Faults.{Begun, at-layer, at-count, at-x, at-y, after, Begins, nothing, more, ListSpells, Judged, ListFault, OfList}
-use Rattle.ringlaws.specs.Groups.{clash}
-use Rattle.ringlaws.specs.Beginnings.{Fine, Good, good-begins}
-use Rattle.ringlaws.specs.Forms.{list-begins}
-use Rattle.ringlaws.specs.Meet.{list-fault-none, one-list}
-use Rattle.ringlaws.specs.Calls.{list-fault, list-laid, laid-short, laid-done}
-use Rattle.numbers.specs.Reading.{answerOf}
+use Rattle.meaning.specs.Answers.{Answer, answer, ends-inside, ring-out-of-range}
+use Rattle.meaning.specs.Rings.{Ring, GoodRings, pairsIn, ringNumbers}
+use Rattle.meaning.specs.Faults.{Begun, at-layer, at-count, at-x, at-y, after, Begins, nothing, more, ListSpells, DueJudged, ListFault}
+use Rattle.ring_laws.specs.Groups.{clash}
+use Rattle.ring_laws.specs.Beginnings.{Fine, Good, good-begins}
+use Rattle.ring_laws.specs.Forms.{list-begins}
+use Rattle.numbers.specs.Reading.{refuse, numberOf}
 use Rattle.numbers.specs.declared.Reading.{Reading}
 use Rattle.numbers.specs.declared.Reading.the-variants.{Value, Refused}
 use Rattle.rings.specs.State.{start, isCoordinate, mayEnd, faultOf, nextOf, judgedAs, dueInList, Sane}
 use Rattle.rings.specs.StateOf.{stateOf, keyed}
-use Rattle.rings.specs.Outcome.{Made, Outcome}
 use Rattle.rings.specs.declared.State.{State}
 use Rattle.rings.proofs.Judging.{judged-value, judged-refused}
 use Rattle.rings.proofs.Standing.{Natural, verdict, negative, next-state, sane, not-end}
@@ -85,23 +80,23 @@ module _ (b : Begun) (z : ℤ) (i : ℕ) (g : Good limit b) where
 
       go : Sign b z → Passed b z i v next
       go (coordinate c k u) = whole u (rw k (rw c at e))
-      go (below c n q u h) = let w : Refused 15 i ≡ Value v next = rw (c, lt-ltb (keyOf z) 2147483648 h) at e in clash (cc)
+      go (below c n q u h) = let w : refuse (ring-out-of-range i) ≡ Value v next = rw (c, lt-ltb (keyOf z) 2147483648 h) at e in clash (cc)
       go (above c u h k) = whole u (rw k (rw (c, le-ltb (keyOf z) 2147483648 h) at e))
 
-  due-refused : (m p : ℕ) → dueInList limit (stateOf b) (keyOf z) i ≡ Refused m p → Judged limit b z i (answer m p)
+  due-refused : (m p : ℕ) → dueInList limit (stateOf b) (keyOf z) i ≡ Refused m p → DueJudged limit b z i (answer m p)
   unfolding dueInList
   due-refused m p e = go (sign b z)
     where
-      whole : Natural b z → judgedAs limit (stateOf b) (keyed b z) i (i + 1) ≡ Refused m p → Judged limit b z i (answer m p)
+      whole : Natural b z → judgedAs limit (stateOf b) (keyed b z) i (i + 1) ≡ Refused m p → DueJudged limit b z i (answer m p)
       whole u q =
           let j = judged-refused limit (stateOf b) (keyed b z) i (i + 1) m p q in
-          subst⁻¹ (λ (a : Answer). Judged limit b z i a) (ap₂ answer (j .1 .0) (j .1 .1)) (verdict limit (lit≤ tt) b z i g u .refused (j .0))
+          subst⁻¹ (λ (a : Answer). DueJudged limit b z i a) (ap₂ answer (j .1 .0) (j .1 .1)) (verdict limit (lit≤ tt) b z i g u .refused (j .0))
 
-      go : Sign b z → Judged limit b z i (answer m p)
+      go : Sign b z → DueJudged limit b z i (answer m p)
       go (coordinate c k u) = whole u (rw k (rw c at e))
       go (below c n q u h) =
-          let w : Refused 15 i ≡ Refused m p = rw (c, lt-ltb (keyOf z) 2147483648 h) at e in
-          let x : m ≡ 15 = cc in
+          let w : refuse (ring-out-of-range i) ≡ Refused m p = rw (c, lt-ltb (keyOf z) 2147483648 h) at e in
+          let x : m ≡ numberOf ring-out-of-range = cc in
           let y : p ≡ i = cc in
           rw (q, x, y) (negative limit b n i u)
       go (above c u h k) = whole u (rw k (rw (c, le-ltb (keyOf z) 2147483648 h) at e))
@@ -152,10 +147,10 @@ module _ (ns : List ℤ) (b : Begun) (s : State) (i : ℕ) (w : ListAt ns b s i)
         nonempty x = let k : [] ≡ getD ns i (pos 0) ∷ drop (suc i) ns = sym x ∙ drop-cons ns i (pos 0) lt in clash (cc)
 
   module _ (over : length ns ≤ i) where
-    pub list-over : mayEnd (s .due) ≡ true → (rs : List Ring) × (b ≡ at-layer rs) × GoodRings limit rs × (ns ≡ numbersOf rs)
+    pub list-over : mayEnd (s .due) ≡ true → (rs : List Ring) × (b ≡ at-layer rs) × GoodRings limit rs × (ns ≡ ringNumbers rs)
     list-over e = go b refl (subst (λ (t : State). mayEnd (t .due) ≡ true) (w .state) e)
       where
-        go : (c : Begun) → b ≡ c → mayEnd (stateOf c .due) ≡ true → (rs : List Ring) × (b ≡ at-layer rs) × GoodRings limit rs × (ns ≡ numbersOf rs)
+        go : (c : Begun) → b ≡ c → mayEnd (stateOf c .due) ≡ true → (rs : List Ring) × (b ≡ at-layer rs) × GoodRings limit rs × (ns ≡ ringNumbers rs)
         go (at-layer rs) q t =
             let k = list-begins limit rs (take i ns) (subst (λ (c : Begun). Begins limit ListSpells [] c (take i ns)) q (w .list)) in
             (rs, q, k .0, sym (take-all i ns over) ∙ k .1)
@@ -163,40 +158,6 @@ module _ (ns : List ℤ) (b : Begun) (s : State) (i : ℕ) (w : ListAt ns b s i)
         go (at-x rs l k ps) q t = absurd (false≢true t)
         go (at-y rs l k ps x) q t = absurd (false≢true t)
 
-    pub list-short : mayEnd (s .due) ≡ false → ListFault limit ns (answer 12 (length ns))
+    pub list-short : mayEnd (s .due) ≡ false → ListFault limit ns (ends-inside (length ns))
     list-short e =
         record { begun = b; front = take i ns; rest = drop i ns; is = sym (take-append-drop i ns); begins = w .list; due = inl ((drop-of-length-le ns over, λ d. not-end b d (subst (λ (t : State). mayEnd (t .due) ≡ false) (w .state) e)), refl) }
-
--- ---- the whole call: r is the outcome with no room, none
-
-module _ {B : Type 0} (make : List Ring → List B) (ns : List ℤ) (out none none′ : List B) (r : Reading) (o : Outcome make ns none r none′) where
-  pub call-refused : (n p : ℕ) (a : Answer) → r ≡ Refused n p → a ≡ answerOf r → OfList make ns out (a, out)
-  call-refused n p a q e = rw e (go o)
-    where
-      go : Outcome make ns none r none′ → OfList make ns out (answerOf r, out)
-      go (inl x) = list-fault make ns out (answerOf r) (x .fault)
-      go (inr x) = let w : Value (length (make (x .rings))) (length ns) ≡ Refused n p = sym (x .is) ∙ q in clash (cc)
-
-  module _ (v next : ℕ) (q : r ≡ Value v next) where
-    made : Made make ns none r none′
-    made = go o
-      where
-        go : Outcome make ns none r none′ → Made make ns none r none′
-        go (inl x) = let w : Refused (x .number) (x .value) ≡ Value v next = sym (x .is) ∙ q in clash (cc)
-        go (inr x) = x
-
-    needed : v ≡ length (make (made .rings))
-    needed = let w : Value v next ≡ Value (length (make (made .rings))) (length ns) = sym q ∙ made .is in cc
-
-    pub call-room : (a : Answer) → length out < v → a ≡ answer 18 v → OfList make ns out (a, out)
-    call-room a h e =
-        rw (e, needed) (list-laid make ns out (made .rings) (room-too-short (length (make (made .rings))), out) (made .good) (made .list) (laid-short (make (made .rings)) out (omega (arith, needed))))
-
-    pub call-done : (a : Answer) (s : Reading) (after-out : List B) → v ≤ length out → a ≡ accepted v → Outcome make ns out s after-out → OfList make ns out (a, after-out)
-    call-done a s after-out h e (inl x) =
-        absurd (list-fault-none limit (made .rings) (made .good) (answerOf s) (subst (λ (l : List ℤ). ListFault limit l (answerOf s)) (made .list) (x .fault)))
-    call-done a s after-out h e (inr x) =
-        let k : x .rings ≡ made .rings = one-list limit (x .rings) (made .rings) (x .good) (made .good) (sym (x .list) ∙ made .list) in
-        let n : v ≡ length (make (x .rings)) = needed ∙ ap (λ (rs : List Ring). length (make rs)) (sym k) in
-        let u : after-out ≡ make (x .rings) ++ drop (length (make (x .rings))) out = x .wrote ∙ sets-all (make (x .rings)) out (omega arith) in
-        rw (e, n, u) (list-laid make ns out (x .rings) (accepted (length (make (x .rings))), make (x .rings) ++ drop (length (make (x .rings))) out) (x .good) (x .list) (laid-done (make (x .rings)) out (omega arith)))

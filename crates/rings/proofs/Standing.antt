@@ -20,18 +20,19 @@ use lib.IntN.{ℤ, pos, negsuc}
 use lib.ListN.{length}
 use lib.Signed.{mag}
 use borrow.Author.Tests.{lt-ltb, le-ltb, le-leb, lt-leb, eq-eqb, ne-eqb}
-use Rattle.basics.specs.Signed.{keyOf, key-inj}
-use Rattle.basics.specs.Lists.{map-append}
+use Rattle.basic_laws.specs.Signed.{keyOf, key-inj}
+use Rattle.basic_laws.specs.Lists.{map-append}
 use Rattle.meaning.specs.Numbers.{pick, limit, inRange}
-use Rattle.meaning.specs.Answers.{answer}
+use Rattle.meaning.specs.Answers.{answer, ring-out-of-range, neighbours-equal, too-many-pairs}
 use Rattle.meaning.specs.Rings.{Pair, pair, Ring, ring, All, xs, ys, pairsIn}
-use Rattle.meaning.specs.Faults.{Begun, at-layer, at-count, at-x, at-y, after, Beside, Judged, previousOr, previous, MayEnd}
-use Rattle.ringlaws.specs.Groups.{clash}
-use Rattle.ringlaws.specs.Differences.{pos-inj, in-range}
-use Rattle.ringlaws.specs.Neighbours.{previous-from}
-use Rattle.ringlaws.specs.Beginnings.{Fine, FineAt, fine-layer, fine-count, count-few, fine-x, fine-y, layer-fine, count-fine, x-fine, y-fine, Good, pairs-snoc, length-snoc, length-xs, length-ys}
-use Rattle.ringlaws.specs.Forms.{range-xs, range-ys, previous-size}
-use Rattle.rings.specs.State.{start, outside, meets, coordinateFault, faultOf, firstOf, nextBy, nextOf, Sane, mayEnd}
+use Rattle.meaning.specs.Faults.{Begun, at-layer, at-count, at-x, at-y, after, Beside, DueJudged, previousOr, previous, MayEnd}
+use Rattle.ring_laws.specs.Groups.{clash}
+use Rattle.ring_laws.specs.Differences.{pos-inj, in-range}
+use Rattle.ring_laws.specs.Neighbours.{previous-from}
+use Rattle.ring_laws.specs.Beginnings.{Fine, FineAt, fine-layer, fine-count, count-few, fine-x, fine-y, layer-fine, count-fine, x-fine, y-fine, Good, pairs-snoc, length-snoc, length-xs, length-ys}
+use Rattle.ring_laws.specs.Forms.{range-xs, range-ys, previous-size}
+use Rattle.numbers.specs.Reading.{numberOf}
+use Rattle.rings.specs.State.{greatest, start, outside, meets, coordinateFault, faultOf, firstOf, nextBy, nextOf, Sane, mayEnd}
 use Rattle.rings.specs.StateOf.{isNone, firstOr, stateOf, keyed}
 
 -- ---- range
@@ -116,7 +117,7 @@ none-ys (p ∷ ps) = refl
 -- r is the answer's number in the paper's table for z at p, or 0 where z has no fault
 pub record Verdict (L : ℕ) (b : Begun) (z : ℤ) (p r : ℕ) : Type 0 where
   pub fine : r ≡ 0 → Fine L b z
-  pub refused : (r ≡ 0 → ⊥) → Judged L b z p (answer r p)
+  pub refused : (r ≡ 0 → ⊥) → DueJudged L b z p (answer r p)
 
 -- a layer or a k that is not negative; any coordinate
 abbrev pub Natural : Begun → ℤ → Type 0
@@ -128,17 +129,17 @@ Natural (at-y rs l k ps x) z = Unit {0}
 positive : {A : Type 0} (n : ℕ) → _≡_ {A = ℕ} (suc n) 0 → A
 positive n e = absurd (omega arith)
 
-verdict-layer : (L : ℕ) (rs : List Ring) (n p : ℕ) → Verdict L (at-layer rs) (pos n) p (pick (ltb 7 n) 15 0)
+verdict-layer : (L : ℕ) (rs : List Ring) (n p : ℕ) → Verdict L (at-layer rs) (pos n) p (pick (ltb 7 n) (numberOf ring-out-of-range) 0)
 verdict-layer L rs n p = go (decLe n 7)
   where
-    go : Dec (n ≤ 7) → Verdict L (at-layer rs) (pos n) p (pick (ltb 7 n) 15 0)
+    go : Dec (n ≤ 7) → Verdict L (at-layer rs) (pos n) p (pick (ltb 7 n) (numberOf ring-out-of-range) 0)
     go (yes h) = rw (le-ltb 7 n h) (record { fine = λ e. layer-fine L rs n h; refused = λ e. absurd (e refl) })
     go (no h) = rw (lt-ltb 7 n (omega arith)) (record { fine = λ e. positive 14 e; refused = λ e. (λ i. h (omega (arith, i .low, pos-inj n (i .layer) (i .is))), refl) })
 
-verdict-count : (L : ℕ) (rs : List Ring) (l n p : ℕ) → pairsIn rs ≤ 4096 → Verdict L (at-count rs l) (pos n) p (pick (ltb n 2) 15 (pick (ltb (4096 - pairsIn rs) n) 17 0))
+verdict-count : (L : ℕ) (rs : List Ring) (l n p : ℕ) → pairsIn rs ≤ 4096 → Verdict L (at-count rs l) (pos n) p (pick (ltb n 2) (numberOf ring-out-of-range) (pick (ltb (4096 - pairsIn rs) n) (numberOf too-many-pairs) 0))
 verdict-count L rs l n p k = go (decLe 2 n) (decLe (pairsIn rs + n) 4096)
   where
-    go : Dec (2 ≤ n) → Dec (pairsIn rs + n ≤ 4096) → Verdict L (at-count rs l) (pos n) p (pick (ltb n 2) 15 (pick (ltb (4096 - pairsIn rs) n) 17 0))
+    go : Dec (2 ≤ n) → Dec (pairsIn rs + n ≤ 4096) → Verdict L (at-count rs l) (pos n) p (pick (ltb n 2) (numberOf ring-out-of-range) (pick (ltb (4096 - pairsIn rs) n) (numberOf too-many-pairs) 0))
     go (no h) w = rw (lt-ltb n 2 (omega arith)) (record { fine = λ e. positive 14 e; refused = λ e. inl (λ i. h (omega (arith, i .two, pos-inj n (i .count) (i .is))), refl) })
     go (yes h) (no w) =
         rw (le-ltb n 2 h, lt-ltb (4096 - pairsIn rs) n (omega arith))
@@ -147,21 +148,21 @@ verdict-count L rs l n p k = go (decLe 2 n) (decLe (pairsIn rs + n) 4096)
 
 module _ (L : ℕ) (h : L < 2147483648) where
   -- an x or a y: J is its table, and F says that it has no fault
-  verdict-coordinate : (zs : List ℤ) (k : ℕ) (z d : ℤ) → length zs < k → All (λ y. inRange L y ≡ true) zs → (F : Type 0) (J : ℕ → Type 0) → (FineAt L zs k z → F) → (inRange L z ≡ false → J 15) → (inRange L z ≡ true → Beside zs k z → J 16) → (r : ℕ) → r ≡ coordinateFault L (isNone zs) (k - suc (length zs)) (keyOf z) (keyOf (previous zs)) (keyOf (firstOr d zs)) → (r ≡ 0 → F) × ((r ≡ 0 → ⊥) → J r)
+  verdict-coordinate : (zs : List ℤ) (k : ℕ) (z d : ℤ) → length zs < k → All (λ y. inRange L y ≡ true) zs → (F : Type 0) (J : ℕ → Type 0) → (FineAt L zs k z → F) → (inRange L z ≡ false → J (numberOf ring-out-of-range)) → (inRange L z ≡ true → Beside zs k z → J (numberOf neighbours-equal)) → (r : ℕ) → r ≡ coordinateFault L (isNone zs) (k - suc (length zs)) (keyOf z) (keyOf (previous zs)) (keyOf (firstOr d zs)) → (r ≡ 0 → F) × ((r ≡ 0 → ⊥) → J r)
   verdict-coordinate zs k z d s e F J f j15 j16 r q = range (inRange L z) refl
     where
       m : Bool
       m = meets (isNone zs) (k - suc (length zs)) (keyOf z) (keyOf (previous zs)) (keyOf (firstOr d zs))
 
-      near : (t : Bool) → m ≡ t → inRange L z ≡ true → r ≡ pick t 16 0 → (r ≡ 0 → F) × ((r ≡ 0 → ⊥) → J r)
+      near : (t : Bool) → m ≡ t → inRange L z ≡ true → r ≡ pick t (numberOf neighbours-equal) 0 → (r ≡ 0 → F) × ((r ≡ 0 → ⊥) → J r)
       near true x i w = (λ u. positive 15 (sym w ∙ u), λ u. subst⁻¹ J w (j16 i (meets-beside L h zs k z d s e i true x .0 refl)))
       near false x i w = (λ u. f (i, meets-beside L h zs k z d s e i false x .1 refl), λ u. absurd (u w))
 
       range : (t : Bool) → inRange L z ≡ t → (r ≡ 0 → F) × ((r ≡ 0 → ⊥) → J r)
       range false i =
-          let w : r ≡ 15 = q ∙ ap (λ (o : Bool). pick o 15 (pick m 16 0)) (outside-key L z h ∙ ap not i) in
+          let w : r ≡ numberOf ring-out-of-range = q ∙ ap (λ (o : Bool). pick o (numberOf ring-out-of-range) (pick m (numberOf neighbours-equal) 0)) (outside-key L z h ∙ ap not i) in
           (λ u. positive 14 (sym w ∙ u), λ u. subst⁻¹ J w (j15 i))
-      range true i = near m refl i (q ∙ ap (λ (o : Bool). pick o 15 (pick m 16 0)) (outside-key L z h ∙ ap not i))
+      range true i = near m refl i (q ∙ ap (λ (o : Bool). pick o (numberOf ring-out-of-range) (pick m (numberOf neighbours-equal) 0)) (outside-key L z h ∙ ap not i))
 
   pub verdict : (b : Begun) (z : ℤ) (p : ℕ) → Good L b → Natural b z → Verdict L b z p (faultOf L (stateOf b) (keyed b z))
   unfolding faultOf
@@ -169,15 +170,15 @@ module _ (L : ℕ) (h : L < 2147483648) where
   verdict (at-count rs l) z p g (n, e) = rw e (verdict-count L rs l n p (g .0 .few))
   verdict (at-x rs l k ps) z p g u =
       let q = ap₂ (λ (t : Bool) (n : ℕ). coordinateFault L t (k - suc n) (keyOf z) (keyOf (previous (xs ps))) (keyOf (firstOr (pos 0) (xs ps)))) (sym (none-xs ps)) (sym (length-xs ps)) in
-      let v = verdict-coordinate (xs ps) k z (pos 0) (omega (arith, length-xs ps, g .short)) (range-xs L ps (g .range)) (Fine L (at-x rs l k ps) z) (λ r. Judged L (at-x rs l k ps) z p (answer r p)) (x-fine L rs l k ps z) (λ i. inl (i, refl)) (λ i s. inr (λ a j. true≢false (sym i ∙ j .0), (s, refl))) (faultOf L (stateOf (at-x rs l k ps)) (keyOf z)) q in
+      let v = verdict-coordinate (xs ps) k z (pos 0) (omega (arith, length-xs ps, g .short)) (range-xs L ps (g .range)) (Fine L (at-x rs l k ps) z) (λ r. DueJudged L (at-x rs l k ps) z p (answer r p)) (x-fine L rs l k ps z) (λ i. inl (i, refl)) (λ i s. inr (λ a j. true≢false (sym i ∙ j .0), (s, refl))) (faultOf L (stateOf (at-x rs l k ps)) (keyOf z)) q in
       record { fine = v .0; refused = v .1 }
   verdict (at-y rs l k ps x) z p g u =
       let q = ap₂ (λ (t : Bool) (n : ℕ). coordinateFault L t (k - suc n) (keyOf z) (keyOf (previous (ys ps))) (keyOf (firstOr (pos 0) (ys ps)))) (sym (none-ys ps)) (sym (length-ys ps)) in
-      let v = verdict-coordinate (ys ps) k z (pos 0) (omega (arith, length-ys ps, g .0 .short)) (range-ys L ps (g .0 .range)) (Fine L (at-y rs l k ps x) z) (λ r. Judged L (at-y rs l k ps x) z p (answer r p)) (y-fine L rs l k ps x z) (λ i. inl (i, refl)) (λ i s. inr (λ a j. true≢false (sym i ∙ j .0), (s, refl))) (faultOf L (stateOf (at-y rs l k ps x)) (keyOf z)) q in
+      let v = verdict-coordinate (ys ps) k z (pos 0) (omega (arith, length-ys ps, g .0 .short)) (range-ys L ps (g .0 .range)) (Fine L (at-y rs l k ps x) z) (λ r. DueJudged L (at-y rs l k ps x) z p (answer r p)) (y-fine L rs l k ps x z) (λ i. inl (i, refl)) (λ i s. inr (λ a j. true≢false (sym i ∙ j .0), (s, refl))) (faultOf L (stateOf (at-y rs l k ps x)) (keyOf z)) q in
       record { fine = v .0; refused = v .1 }
 
 -- a layer or a k below 0
-pub negative : (L : ℕ) (b : Begun) (n p : ℕ) → (Natural b (negsuc n) → ⊥) → Judged L b (negsuc n) p (answer 15 p)
+pub negative : (L : ℕ) (b : Begun) (n p : ℕ) → (Natural b (negsuc n) → ⊥) → DueJudged L b (negsuc n) p (ring-out-of-range p)
 negative L (at-layer rs) n p h = (λ i. let e = i .is in clash (cc), refl)
 negative L (at-count rs l) n p h = inl (λ i. let e = i .is in clash (cc), refl)
 negative L (at-x rs l k ps) n p h = absurd (h tt)
@@ -214,7 +215,7 @@ next-state L (at-y rs l k ps x) z g f = go (ℕ-discrete (suc (length ps)) k)
 
 -- ---- bounds
 
-key-most : (L : ℕ) (z : ℤ) → L ≤ 1073741824 → inRange L z ≡ true → keyOf z ≤ 3221225472
+key-most : (L : ℕ) (z : ℤ) → L ≤ 1073741824 → inRange L z ≡ true → keyOf z ≤ greatest
 key-most L (pos n) h e = omega (arith, in-range L (pos n) e)
 key-most L (negsuc n) h e = omega arith
 
@@ -247,7 +248,7 @@ sane (at-y rs l k ps x) g =
       fx = key-most limit (firstOr x (xs ps)) (lit≤ tt) (first-size limit x (xs ps) (g .1 .0) (range-xs limit ps (g .0 .range)));
     }
 
-pub keyed-most : (b : Begun) (z : ℤ) → Fine limit b z → keyed b z ≤ 3221225472
+pub keyed-most : (b : Begun) (z : ℤ) → Fine limit b z → keyed b z ≤ greatest
 keyed-most (at-layer rs) z f = let i = fine-layer limit rs z f in rw (i .is) (omega (arith, i .low))
 keyed-most (at-count rs l) z f = let i = fine-count limit rs l z f .0 in rw (i .is) (omega (arith, count-few limit rs l (i .count) (subst (Fine limit (at-count rs l)) (i .is) f)))
 keyed-most (at-x rs l k ps) z f = key-most limit z (lit≤ tt) (fine-x limit rs l k ps z f .0)

@@ -6,8 +6,9 @@ use native.Mathlib.Omega.{arith}
 use lib.Dec.{ltb}
 use borrow.Author.Tests.{lt-ltb, le-ltb, ltb-false}
 use Rattle.meaning.specs.Numbers.{pick, limit}
+use Rattle.meaning.specs.Answers.{ring-out-of-range, too-many-pairs}
+use Rattle.numbers.specs.Reading.{refuse, numberOf}
 use Rattle.rings.specs.State.{faultBy, faultOf, judgedAs, isCoordinate, dueInList}
-use Rattle.numbers.specs.declared.Reading.the-variants.{Refused}
 use Rattle.rings.specs.declared.Due.{Due}
 use Rattle.rings.specs.declared.Due.the-variants.{Count}
 use Rattle.rings.specs.declared.State.{State}
@@ -16,7 +17,7 @@ pub count-bounds : (s : State) (v : ℕ) → faultOf limit s v ≡ 0 → s .due 
 unfolding faultOf
 count-bounds s v e d = go (ltb v 2) (ltb (s .room) v) (ap (λ (c : Due). faultBy limit c s v) (sym d) ∙ e) (ltb-false v 2) (ltb-false (s .room) v)
   where
-    go : (p q : Bool) → _≡_ {A = ℕ} (pick p 15 (pick q 17 0)) 0 → (p ≡ false → 2 ≤ v) → (q ≡ false → v ≤ s .room) → (1 ≤ v) × (v ≤ s .room)
+    go : (p q : Bool) → _≡_ {A = ℕ} (pick p (numberOf ring-out-of-range) (pick q (numberOf too-many-pairs) 0)) 0 → (p ≡ false → 2 ≤ v) → (q ≡ false → v ≤ s .room) → (1 ≤ v) × (v ≤ s .room)
     go true q h f g = absurd (omega arith)
     go false true h f g = absurd (omega arith)
     go false false h f g = (omega (arith, f refl), g refl)
@@ -27,7 +28,7 @@ module _ (L : ℕ) (s : State) (u w i : ℕ) (e : w ≡ u) where
   unfolding dueInList
   due-coordinate c = rw (c, e)
 
-  pub due-negative : isCoordinate (s .due) ≡ false → w < 2147483648 → Refused 15 i ≡ dueInList L s u i
+  pub due-negative : isCoordinate (s .due) ≡ false → w < 2147483648 → refuse (ring-out-of-range i) ≡ dueInList L s u i
   unfolding dueInList
   due-negative c h = rw (c, ← e, lt-ltb w 2147483648 h)
 

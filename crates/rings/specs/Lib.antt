@@ -2,3 +2,4 @@
 pub mod State
 pub mod StateOf
 pub mod Outcome
+pub mod OutcomeLaws

@@ -1,5 +1,6 @@
 -- What is known between two numbers of a ring list, and what the due number does to it. A coordinate z stands as z + 2^31.
 --
+--   greatest          how the greatest coordinate stands
 --   start room        between rings, where other rings may have so many pairs
 --   faultOf L s v     the number of the refusal of the due number v, or 0
 --   nextOf s v        what is known after it
@@ -9,12 +10,17 @@
 use mathlib.Core.Bool.{Bool, true, false}
 use Prim.Native.Nat.{ℕ, _+_, _-_, _≤_}
 use lib.Dec.{ltb, eqb}
-use Rattle.meaning.specs.Numbers.{pick}
+use Rattle.meaning.specs.Numbers.{pick, limit}
+use Rattle.meaning.specs.Answers.{ring-out-of-range, neighbours-equal, too-many-pairs}
+use Rattle.numbers.specs.Reading.{refuse, numberOf}
 use Rattle.numbers.specs.declared.Reading.{Reading}
 use Rattle.numbers.specs.declared.Reading.the-variants.{Value, Refused}
 use Rattle.rings.specs.declared.Due.{Due}
 use Rattle.rings.specs.declared.Due.the-variants.{Layer, Count, X, Y}
 use Rattle.rings.specs.declared.State.{State}
+
+abbrev pub greatest : ℕ
+greatest = 2147483648 + limit
 
 abbrev pub start : ℕ → State
 start room = record { due = Layer; layer = 0; more = 0; room = room; fresh = true; px = 2147483648; py = 2147483648; fx = 2147483648; fy = 2147483648 }
@@ -29,11 +35,11 @@ abbrev pub meets : Bool → ℕ → ℕ → ℕ → ℕ → Bool
 meets fresh more v p f = pick fresh false (pick (eqb v p) true (pick (eqb more 0) (eqb v f) false))
 
 abbrev pub coordinateFault : ℕ → Bool → ℕ → ℕ → ℕ → ℕ → ℕ
-coordinateFault L fresh more v p f = pick (outside L v) 15 (pick (meets fresh more v p f) 16 0)
+coordinateFault L fresh more v p f = pick (outside L v) (numberOf ring-out-of-range) (pick (meets fresh more v p f) (numberOf neighbours-equal) 0)
 
 abbrev pub faultBy : ℕ → Due → State → ℕ → ℕ
-faultBy L Layer s v = pick (ltb 7 v) 15 0
-faultBy L Count s v = pick (ltb v 2) 15 (pick (ltb (s .room) v) 17 0)
+faultBy L Layer s v = pick (ltb 7 v) (numberOf ring-out-of-range) 0
+faultBy L Count s v = pick (ltb v 2) (numberOf ring-out-of-range) (pick (ltb (s .room) v) (numberOf too-many-pairs) 0)
 faultBy L X s v = coordinateFault L (s .fresh) (s .more) v (s .px) (s .fx)
 faultBy L Y s v = coordinateFault L (s .fresh) (s .more) v (s .py) (s .fy)
 
@@ -75,12 +81,12 @@ isCoordinate X = true
 isCoordinate Y = true
 
 unfoldable pub dueInList : ℕ → State → ℕ → ℕ → Reading
-dueInList L s u i = pick (isCoordinate (s .due)) (judgedAs L s u i (i + 1)) (pick (ltb u 2147483648) (Refused 15 i) (judgedAs L s (u - 2147483648) i (i + 1)))
+dueInList L s u i = pick (isCoordinate (s .due)) (judgedAs L s u i (i + 1)) (pick (ltb u 2147483648) (refuse (ring-out-of-range i)) (judgedAs L s (u - 2147483648) i (i + 1)))
 
 pub record Sane (s : State) : Type 0 where
   pub layer : s .layer ≤ 7
   pub more : s .more ≤ 4096
   pub room : s .room ≤ 4096
-  pub px : s .px ≤ 3221225472
-  pub py : s .py ≤ 3221225472
-  pub fx : s .fx ≤ 3221225472
+  pub px : s .px ≤ greatest
+  pub py : s .py ≤ greatest
+  pub fx : s .fx ≤ greatest

@@ -7,7 +7,7 @@ use mathlib.Core.List.{List, [], _∷_}
 use Prim.Native.Nat.{ℕ, suc, _-_}
 use lib.IntN.{ℤ, pos, natAbs}
 use lib.ListN.{length}
-use Rattle.basics.specs.Signed.{keyOf}
+use Rattle.basic_laws.specs.Signed.{keyOf}
 use Rattle.meaning.specs.Rings.{xs, ys, pairsIn}
 use Rattle.meaning.specs.Faults.{Begun, at-layer, at-count, at-x, at-y, previous}
 use Rattle.rings.specs.State.{start}

@@ -1,12 +1,28 @@
 // Judging rings number by number: what has been read, the fault of the number that is due, and what has been read after it.
 use numbers::Reading;
+use scanline::Scanline;
 ghost use mathlib.Core.Path.{_≡_};
 ghost use Prim.Native.Nat.{_+_, _<_};
 ghost use lib.IntN.{pos};
 ghost use lib.ListN.{length, getD, set};
-ghost use Rattle.basics.specs.Signed.{keyOf, unkeyOf};
+ghost use Rattle.basic_laws.specs.Signed.{keyOf, unkeyOf};
 ghost use Rattle.meaning.specs.Numbers.{limit};
 ghost use Rattle.rings.specs.State.{start, outside, meets, firstOf, coordinateFault, faultOf, nextOf, judgedAs, mayEnd, isCoordinate, dueInList};
+
+// 2^31: a coordinate stands so far above itself.
+pub const HALF: u64 = whole::HALF as u64;
+
+// The least coordinate, as it stands.
+const LEAST: u64 = HALF - Scanline::LIMIT as u64;
+
+// The greatest coordinate, as it stands.
+const GREATEST: u64 = HALF + Scanline::LIMIT as u64;
+
+// The last layer.
+const LAST: u64 = Scanline::LAYERS as u64 - 1;
+
+// The most pairs of a file.
+const PAIRS: u64 = 4096;
 
 // The number that is due.
 pub enum Due {
@@ -41,10 +57,10 @@ fn between(room: u64) -> State
         more: 0,
         room,
         fresh: true,
-        px: 2147483648,
-        py: 2147483648,
-        fx: 2147483648,
-        fy: 2147483648,
+        px: HALF,
+        py: HALF,
+        fx: HALF,
+        fy: HALF,
     }
 }
 
@@ -52,17 +68,17 @@ fn between(room: u64) -> State
 pub fn begin() -> State
     ensures { λ r. ⌜ r ≡ start 4096 ⌝ }
 {
-    between(4096)
+    between(PAIRS)
 }
 
 // Is a coordinate out of range?
 fn outside(v: u64) -> bool
     ensures { λ r. ⌜ r ≡ outside limit v ⌝ }
 {
-    if v < 1073741824 {
+    if v < LEAST {
         return true;
     }
-    3221225472 < v
+    GREATEST < v
 }
 
 // Is a coordinate equal to that of a cyclic neighbour before it?
@@ -110,7 +126,7 @@ fn fault(s: State, v: u64) -> u64
     let room = s.room;
     match due {
         Due::Layer => {
-            if 7 < v {
+            if LAST < v {
                 return 15;
             }
             0
@@ -262,10 +278,10 @@ pub fn due_in(list: &[i32], i: usize, s: State) -> Reading
     if is_coordinate(due) {
         return judged(s, u, i, i + 1);
     }
-    if u < 2147483648 {
+    if u < HALF {
         return Reading::Refused(15, i);
     }
-    judged(s, u - 2147483648, i, i + 1)
+    judged(s, u - HALF, i, i + 1)
 }
 
 // Writes at n, where there is room for it, the number that stands 2^31 below k.

@@ -1,6 +1,6 @@
 // Runs the last four of the checked examples, and prints for each the number that the call answers.
+use answers::Answer;
 use drawing::Drawn;
-use edges::Judged;
 use libc::STDOUT_FILENO;
 
 fn line(name: &[u8], number: u64) {
@@ -23,20 +23,21 @@ fn drawn(place: i32) -> u64 {
     }
 }
 
-fn text(s: &[u8]) -> u64 {
-    expression::number(expression::judge(s))
+// The number of the area of an expression over an edge list.
+fn answered(numbers: &[i32], text: &[u8]) -> u64 {
+    let answer: Answer = engine::area(numbers, text);
+    answer.number
 }
 
-// The number of an edge list, with layers 0 to 7.
+// The number of an expression, over no edges.
+fn text(s: &[u8]) -> u64 {
+    let none = [0i32; 1];
+    answered(&none[0..0], s)
+}
+
+// The number of an edge list.
 fn list(numbers: &[i32]) -> u64 {
-    match edges::judge(numbers, 7) {
-        Judged::Fine => 0,
-        Judged::NotFours => 1,
-        Judged::TooManyEdges => 2,
-        Judged::OutOfRange(_) => 3,
-        Judged::FromEqualsTo(_) => 4,
-        Judged::NotClosed => 5,
-    }
+    answered(numbers, b"a")
 }
 
 // A, which is (0,0,10,0), (0,5,0,10), over and over, in a list of zeros.

@@ -1,5 +1,5 @@
-// Judges each line of standard input as an expression and writes a line for it: the number of the answer and its value, the sum of m + 1 over the covers m at which the text
-// holds, and the byte of the layers on which it depends.
+// Judges each line of standard input as an expression and writes a line for it: the number of the answer and its value, and the sum of m + 1 over the covers m at which the text
+// holds.
 ghost use Prim.Native.Nat.{_≤_};
 ghost use lib.ListN.{length};
 
@@ -59,6 +59,5 @@ fn put(n: u64, after: &[u8]) {
 fn answer(text: &[u8]) {
     let truth = expression::table(text);
     put(expression::number(expression::judge(text)), b" 0 ");
-    put(sum_of_covers(&truth), b" ");
-    put(covers::depends(&truth) as u64, b"\n");
+    put(sum_of_covers(&truth), b"\n");
 }

@@ -1,50 +1,25 @@
--- The counts past one crossing, layer by layer. Assumes nothing.
+-- What a fresh scanline hands on past its first crossing. Assumes nothing.
 --
---   west-at, east-at       each count past a crossing; west-long, east-long: there are as many as before
---   fresh-zero             every count of a fresh scanline is zero
-use Prim.Native.Nat.{ℕ, zero, suc, _+_, _<_}
-use mathlib.Core.Path.{_≡_, refl, sym, _∙_}
-use mathlib.Core.List.{List}
-use mathlib.Core.Bool.{Bool, true, false, _&&_, not}
+--   fresh-at       every count of a fresh scanline is zero
+--   handed-on      past its first crossing the count of the edge's layer is changed by one, and the others are at zero
+use Prim.Native.Nat.{ℕ, zero, suc, _<_}
+use mathlib.Core.Path.{_≡_, refl, ap, _∙_}
+use mathlib.Core.Bool.{Bool}
 use native.Mathlib.Omega.{arith}
-use lib.ListN.{length, getD, replicate, length-set}
-use lib.Seq.{getD-set-same, getD-set-other}
-use lib.Dec.{eqb}
-use borrow.Author.Tests.{eqb-true, eqb-false}
-use Rattle.meaning.specs.Numbers.{bit}
-use Rattle.scanline.specs.declared.Counts.{Counts}
-use Rattle.scanline.specs.Handed.{bump, crossedBy}
+use lib.ListN.{getD, replicate}
+use lib.Seq.{getD-set-same}
+use Rattle.scanline.specs.Handed.{changed, freshLine, past}
 
-bump-at : (xs : List ℕ) (l k : ℕ) → l < length xs → getD (bump xs l) k 0 ≡ getD xs k 0 + bit (eqb l k)
-bump-at xs l k h = go (eqb l k) refl
-  where
-    go : (b : Bool) → eqb l k ≡ b → getD (bump xs l) k 0 ≡ getD xs k 0 + bit b
-    go true e = rw (← eqb-true l k e) (getD-set-same xs l (getD xs l 0 + 1) 0 h)
-    go false e = getD-set-other xs l k (getD xs l 0 + 1) 0 (λ q. eqb-false l k e (sym q)) ∙ omega arith
+pub fresh-at : (l : ℕ) → l < 8 → _≡_ {A = ℕ} (getD (replicate 8 8192) l 0) 8192
+fresh-at zero h = refl
+fresh-at (suc zero) h = refl
+fresh-at (suc (suc zero)) h = refl
+fresh-at (suc (suc (suc zero))) h = refl
+fresh-at (suc (suc (suc (suc zero)))) h = refl
+fresh-at (suc (suc (suc (suc (suc zero))))) h = refl
+fresh-at (suc (suc (suc (suc (suc (suc zero)))))) h = refl
+fresh-at (suc (suc (suc (suc (suc (suc (suc zero))))))) h = refl
+fresh-at (suc (suc (suc (suc (suc (suc (suc (suc l)))))))) h = absurd (omega arith)
 
-pub west-at : (c : Counts) (l : ℕ) (w : Bool) (k : ℕ) → l < length (c .wests) → getD (crossedBy c l w .wests) k 0 ≡ getD (c .wests) k 0 + bit (w && eqb l k)
-west-at c l true k h = bump-at (c .wests) l k h
-west-at c l false k h = omega arith
-
-pub east-at : (c : Counts) (l : ℕ) (w : Bool) (k : ℕ) → l < length (c .easts) → getD (crossedBy c l w .easts) k 0 ≡ getD (c .easts) k 0 + bit (not w && eqb l k)
-east-at c l false k h = bump-at (c .easts) l k h
-east-at c l true k h = omega arith
-
-pub west-long : (c : Counts) (l : ℕ) (w : Bool) → length (crossedBy c l w .wests) ≡ length (c .wests)
-west-long c l true = simp length-set
-west-long c l false = refl
-
-pub east-long : (c : Counts) (l : ℕ) (w : Bool) → length (crossedBy c l w .easts) ≡ length (c .easts)
-east-long c l true = refl
-east-long c l false = simp length-set
-
-pub fresh-zero : (l : ℕ) → _≡_ {A = ℕ} (getD (replicate 8 0) l 0) 0
-fresh-zero zero = refl
-fresh-zero (suc zero) = refl
-fresh-zero (suc (suc zero)) = refl
-fresh-zero (suc (suc (suc zero))) = refl
-fresh-zero (suc (suc (suc (suc zero)))) = refl
-fresh-zero (suc (suc (suc (suc (suc zero))))) = refl
-fresh-zero (suc (suc (suc (suc (suc (suc zero)))))) = refl
-fresh-zero (suc (suc (suc (suc (suc (suc (suc zero))))))) = refl
-fresh-zero (suc (suc (suc (suc (suc (suc (suc (suc l)))))))) = refl
+pub handed-on : (l : ℕ) (w : Bool) → l < 8 → getD (past freshLine l w .counts .raised) l 0 ≡ changed 8192 w
+handed-on l w h = getD-set-same (replicate 8 8192) l _ 0 h ∙ ap (λ (k : ℕ). changed k w) (fresh-at l h)

@@ -1,3 +1,3 @@
--- One kind's lines, place by place.
-pub mod Places
-pub mod Once
+-- The sweep, place after place.
+pub mod Filling
+pub mod Going

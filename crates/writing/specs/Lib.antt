@@ -1,3 +1,5 @@
 -- The result into the lent buffer.
 pub mod Writing
-pub mod Once
+pub mod Parts
+pub mod Loops
+pub mod Whole

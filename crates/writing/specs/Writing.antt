@@ -1,64 +1,108 @@
--- The answer and the buffer for a list of records.
+-- The result of a sweep in the lent buffer, part by part. hs are all its horizontals, by ranks in vx.
 --
---   answerOf w               number and value of what the writing answers
---   short out rs             "record room under four numbers a record"
---   answerFor out rs         the answer for the records rs: 10 with the records needed, or 0 with their number
---   written out rs           the records' numbers, and the rest as it was
---   bufferFor out rs         the buffer after: "unchanged by every refusal, and beyond what an accepted answer writes"
---   BothOk hs vs xs ys truth what the two sweeps are asked
---   Wrote .. out out′ r      r and out′ are those for the records that the sweeps find: for the edges fed, their result
+--   written vx hs out           the buffer: the records' numbers, horizontals first, and the rest as it was
+--   fitting hs out              "record room under four numbers a record" is not so: there are as many verticals as horizontals
+--   Wrote vx hs out out′ r      the answer and the buffer for these horizontals, and the sum of their weights
+--   Even n ws layers ends       after all edges the rows are as before the first: the list is closed
+--   WriteOk                     what the writing is asked: a sweep at its start, counters at zero, and the horizontals of some set of cells
+--   MeasureOk, Measures         before and after the horizontals are counted
+--   levelled vx ws n out        the horizontals of a part, as records from number n on
+--   LevelsOk, PartOk, Parted    before and after one part is written
+--   AgainOk                     what writing all parts is asked
 use mathlib.Core.Path.{_≡_}
-use mathlib.Core.List.{List, _++_}
 use mathlib.Core.Bool.{Bool}
-use Prim.Native.Nat.{ℕ, _+_, _*_, _≤_}
-use lib.ListN.{length, drop}
-use lib.Dec.{ltb}
+use mathlib.Core.List.{List, _++_, map}
+use Prim.Native.Nat.{ℕ, _+_, _*_, _<_, _≤_}
+use lib.Dec.{leb}
 use lib.IntN.{ℤ}
+use lib.ListN.{length, getD, take, drop}
 use Rattle.meaning.specs.Numbers.{pick}
-use Rattle.meaning.specs.Answers.{Answer, accepted, too-little-room}
-use Rattle.meaning.specs.Edges.{Edge}
 use Rattle.meaning.specs.Records.{Record}
-use Rattle.grid.specs.Plane.{insideN, resultN}
-use Rattle.covering.specs.Cover.{holdsOf}
-use Rattle.records.specs.Put.{numbers}
-use Rattle.corners.specs.Swept.{swept, SweepOk}
-use Rattle.corners.specs.Fed.{Fed}
-use Rattle.writing.specs.declared.Written.{Written}
-use Rattle.writing.specs.declared.Written.the-variants.{All, Short}
-use Rattle.writing.specs.declared.Both.{Both}
+use Rattle.bucket_laws.specs.Buckets.{Counted}
+use Rattle.records.specs.Put.{numbers, emitted}
+use Rattle.crossings.specs.Swept.{Swept, edgesTo}
+use Rattle.horizontal.specs.Words.{onLevel, heightOf, levelOf, wordOf}
+use Rattle.weights.specs.Weights.{Weighed}
+use Rattle.vertical_laws.specs.Tips.{verticalsN}
+use Rattle.vertical_laws.specs.Ranked.{onUpright}
+use Rattle.vertical_laws.specs.Whole.{Horizontals}
+use Rattle.verticals.specs.Words.{digitsIn, Low, Ready, state, placedAll, PlaceOk}
+use Rattle.sweep_laws.specs.Lines.{linesTo}
+use Rattle.sweep.specs.Filling.{Given, At}
+use Rattle.writing.specs.declared.Found.{Found}
+use Rattle.writing.specs.declared.Measured.{Measured}
 
-abbrev pub answerOf : Written → Answer
-answerOf (All n) = accepted n
-answerOf (Short n) = too-little-room n
+unfoldable pub written : List ℕ → List (Record ℕ) → List ℤ → List ℤ
+written vx hs out = numbers (map (onLevel vx) hs ++ map (onUpright vx) (verticalsN (length vx) hs)) ++ drop (8 * length hs) out
 
-abbrev pub short : List ℤ → List (Record ℕ) → Bool
-short out rs = ltb (length out) (length rs * 4)
+abbrev pub fitting : List (Record ℕ) → List ℤ → Bool
+fitting hs out = leb (8 * length hs) (length out)
 
-abbrev pub answerFor : List ℤ → List (Record ℕ) → Answer
-answerFor out rs = pick (short out rs) (too-little-room (length rs)) (accepted (length rs))
+pub record Wrote (vx : List ℕ) (hs : List (Record ℕ)) (out out′ : List ℤ) (r : Found) : Type 0 where
+  pub records : r .records ≡ 2 * length hs
+  pub fits : r .fits ≡ fitting hs out
+  pub buffer : out′ ≡ pick (fitting hs out) (written vx hs out) out
+  pub cells : Weighed 0 (map (onLevel vx) hs) (r .cells)
 
-abbrev pub written : List ℤ → List (Record ℕ) → List ℤ
-written out rs = numbers rs ++ drop (length rs * 4) out
+unfoldable pub Even : ℕ → List ℕ → List ℕ → List ℕ → Type 0
+Even n ws layers ends = (c m : List ℕ) → Swept n (edgesTo ws layers ends (length ws)) c m → Swept n (edgesTo ws layers ends 0) c m
 
-abbrev pub bufferFor : List ℤ → List (Record ℕ) → List ℤ
-bufferFor out rs = pick (short out rs) out (written out rs)
+pub record WriteOk (base : ℕ) (ws layers ends : List ℕ) (truth : List Bool) (vx loc cs c m told d : List ℕ) : Type 0 where
+  pub given : Given base ws layers ends truth vx (length m)
+  pub at : At (length m) ws layers ends 0 c m told d
+  pub room : length vx ≤ length loc
+  pub counters : length cs ≡ length vx
+  pub none : (i : ℕ) → i < length cs → getD cs i 0 ≡ 0
+  pub even : Even (length m) ws layers ends
+  -- a set of cells whose horizontals these are
+  pub cell : ℕ → ℕ → Bool
+  pub levels : Horizontals 2147483648 cell vx (linesTo base ws layers ends truth (length vx) (length ws))
 
-pub record BothOk (hs vs xs ys : List ℕ) (truth : List Bool) : Type 0 where
-  pub level : SweepOk 0 hs ys xs truth
-  pub upright : SweepOk 1 vs xs ys truth
+pub record MeasureOk (base : ℕ) (ws layers ends : List ℕ) (truth : List Bool) (vx loc cs c m told d : List ℕ) : Type 0 where
+  pub given : Given base ws layers ends truth vx (length m)
+  pub at : At (length m) ws layers ends 0 c m told d
+  pub room : length vx ≤ length loc
+  pub counters : length cs ≡ length vx
+  pub none : (i : ℕ) → i < length cs → getD cs i 0 ≡ 0
 
--- the records rs and ss were counted, and stand in the list where it has room for them
-pub record Gathered (loc₀ : List ℤ) (rs ss : List (Record ℕ)) (loc : List ℤ) (r : Both) : Type 0 where
-  pub level-is : r .level ≡ length rs
-  pub upright-is : r .upright ≡ length ss
-  pub less : (r .level ≤ 134217728) × (r .upright ≤ 134217728)
-  pub few : (r .level + r .upright) * 4 ≤ length loc₀ → loc ≡ written loc₀ (rs ++ ss)
+pub record Measures (base : ℕ) (ws layers ends : List ℕ) (truth : List Bool) (vx loc cs c m told d : List ℕ) (r : Measured) : Type 0 where
+  pub all : r .all ≡ length (linesTo base ws layers ends truth (length vx) (length ws))
+  pub few : r .all ≤ 33554432
+  pub counted : Counted (digitsIn (map wordOf (linesTo base ws layers ends truth (length vx) (length ws)))) cs
+  pub counters : length cs ≡ length vx
+  pub weighed : Weighed 0 (map (onLevel vx) (linesTo base ws layers ends truth (length vx) (length ws))) (r .sum)
+  pub at : At (length m) ws layers ends (length ws) c m told d
+  pub last : r .last ≤ length loc
+  -- where the last part is all, it is all there is
+  pub kept : r .last ≡ r .all → take (r .last) loc ≡ map wordOf (linesTo base ws layers ends truth (length vx) (length ws))
 
--- r and out′ are the answer and the buffer for the records rs
-pub record WroteFor (rs : List (Record ℕ)) (out out′ : List ℤ) (r : Written) : Type 0 where
-  pub answer-is : answerOf r ≡ answerFor out rs
-  pub buffer-is : out′ ≡ bufferFor out rs
+-- ---- one part
 
-pub record Wrote (hs vs xs ys : List ℕ) (truth : List Bool) (out out′ : List ℤ) (r : Written) : Type 0 where
-  pub found : WroteFor (swept 0 hs ys xs truth ++ swept 1 vs xs ys truth) out out′ r
-  pub result : (es : List (Edge ℕ)) → Fed es truth xs ys hs vs → WroteFor (resultN 2147483648 (insideN (holdsOf truth) es)) out out′ r
+unfoldable pub levelled : List ℕ → List ℕ → ℕ → List ℤ → List ℤ
+levelled vx ws n out = emitted out n (map (onLevel vx) (map levelOf ws))
+
+pub record LevelsOk (ws vx : List ℕ) (n : ℕ) : Type 0 where
+  pub low : Low (length vx) ws
+  pub columns : (i : ℕ) → i < length vx → getD vx i 0 ≤ 2147483648
+  pub heights : (i : ℕ) → i < length ws → heightOf (getD ws i 0) ≤ 2147483648
+  pub few : n + length ws ≤ 33554432
+
+pub record PartOk (ws : List ℕ) (n h : ℕ) (vx cs : List ℕ) (out : List ℤ) : Type 0 where
+  pub levels : LevelsOk ws vx n
+  pub within : n + length ws ≤ h
+  pub few : h ≤ 33554432
+  pub room : 8 * h ≤ length out
+  pub place : PlaceOk ws vx cs (drop (4 * h) out)
+
+pub record Parted (ws : List ℕ) (n h : ℕ) (vx cs cs′ : List ℕ) (out out′ : List ℤ) : Type 0 where
+  pub front : take (4 * h) out′ ≡ take (4 * h) (levelled vx ws n out)
+  pub back : state (drop (4 * h) out′) cs′ ≡ placedAll vx ws (state (drop (4 * h) out) cs)
+  pub long : length out′ ≡ length out
+
+pub record AgainOk (base : ℕ) (ws layers ends : List ℕ) (truth : List Bool) (vx : List ℕ) (h : ℕ) (out : List ℤ) (loc cs c m told d : List ℕ) : Type 0 where
+  pub given : Given base ws layers ends truth vx (length m)
+  pub at : At (length m) ws layers ends 0 c m told d
+  pub room : length vx ≤ length loc
+  pub all : h ≡ length (linesTo base ws layers ends truth (length vx) (length ws))
+  pub fits : 8 * h ≤ length out
+  pub ready : Ready (map wordOf (linesTo base ws layers ends truth (length vx) (length ws))) vx cs (length (drop (4 * h) out))

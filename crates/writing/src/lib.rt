@@ -1,138 +1,212 @@
-// The result of both kinds into the lent buffer, or refused with the buffer as it was.
+// The result of a sweep into the lent buffer, or refused with the buffer as it was; and its area.
 ghost use mathlib.Core.Path.{_≡_};
-ghost use mathlib.Core.List.{_++_};
 ghost use Prim.Native.Nat.{_+_, _*_, _≤_};
-ghost use lib.ListN.{length, take, drop};
-ghost use Rattle.corners.specs.Swept.{swept, SweepOk};
-ghost use Rattle.writing.specs.Writing.{written, BothOk, Gathered, Wrote};
+ghost use lib.ListN.{length};
+ghost use Rattle.sweep_laws.specs.Lines.{linesTo};
+ghost use Rattle.writing.specs.Writing.{MeasureOk, Measures, LevelsOk, levelled, PartOk, Parted, AgainOk, written, WriteOk, Wrote};
 
-// What the writing of a result answers.
-pub enum Written {
-    // So many records stand in the buffer.
-    All(u64),
-    // There is no room for so many.
-    Short(u64),
+// How many records there are, whether the buffer has room for them, and the inside cells.
+pub struct Found {
+    pub records: u64,
+    pub fits: bool,
+    pub cells: u64,
 }
 
-// A call of so few corners, and the numbers of records for which it has room to gather them before it is known whether the caller has; and those of
-// any other call. Up to these the sweeps are made once, beyond them twice.
-const FEW_CORNERS: usize = 1024;
-
-const FEW: usize = 8192;
-
-const MANY: usize = 65536;
-
-// How many records of each kind there are.
-pub struct Both {
-    pub level: usize,
-    pub upright: usize,
+// How many horizontals there are, how many of them stand in the working array, and the sum of their weights.
+pub struct Measured {
+    pub all: usize,
+    pub last: usize,
+    pub sum: u64,
 }
 
-// The number at which record n starts.
-fn start_of(n: usize) -> usize
-    requires { ⌜ n ≤ 268435456 ⌝ }
-    ensures { λ r. ⌜ r ≡ n * 4 ⌝ }
+// All horizontals counted and weighed, and their ends counted at each x, part by part; the last part stays in loc.
+fn measure(
+    loc: &mut [u64],
+    cs: &mut [u32],
+    ws: &[u64],
+    base: u32,
+    layers: &[u8],
+    ends: &[u16],
+    vx: &[u32],
+    truth: &[bool],
+    c: &mut [u16],
+    covers: &mut [u8],
+    told: &mut [u8],
+    marks: &mut [u16],
+) -> Measured
+    requires { ⌜ MeasureOk base (now ws) (now layers) (now ends) (now truth) (now vx) (now loc) (now cs) (now c) (now covers) (now told) (now marks) ⌝ }
+    ensures { λ r. ⌜ Measures base (now (ws .entry)) (now (layers .entry)) (now (ends .entry)) (now (truth .entry)) (now (vx .entry)) (now (loc .exit)) (now (cs .exit)) (now (c .exit)) (now (covers .exit)) (now (told .exit)) (now (marks .exit)) r ⌝ }
 {
-    n * 4
-}
-
-// How many records of a kind there are: a buffer that has no room for one is lent.
-fn count(kind: u32, keys: &[u32], maj: &[u32], mnr: &[u32], truth: &[bool]) -> usize
-    requires { ⌜ SweepOk kind (now keys) (now maj) (now mnr) (now truth) ⌝ }
-    ensures { λ r. ⌜ (r ≡ length (swept kind (now (keys .entry)) (now (maj .entry)) (now (mnr .entry)) (now (truth .entry)))) × (r ≤ 134217728) ⌝ }
-{
-    let mut none = [0i32; 1];
-    sweep::records(&mut none, kind, keys, maj, mnr, truth)
-}
-
-// All records: the horizontals, and the verticals from just after them, of which n are known.
-fn place(out: &mut [i32], n: usize, hs: &[u32], vs: &[u32], xs: &[u32], ys: &[u32], truth: &[bool])
-    requires { ⌜ BothOk (now hs) (now vs) (now xs) (now ys) (now truth) ⌝ }
-    requires { ⌜ (n ≤ 134217728) × (n ≡ length (swept 0 (now hs) (now ys) (now xs) (now truth))) × ((n + length (swept 1 (now vs) (now xs) (now ys) (now truth))) * 4 ≤ length (now out)) ⌝ }
-    ensures { λ _. ⌜ now (out .exit) ≡ written (now (out .entry)) (swept 0 (now (hs .entry)) (now (ys .entry)) (now (xs .entry)) (now (truth .entry)) ++ swept 1 (now (vs .entry)) (now (xs .entry)) (now (ys .entry)) (now (truth .entry))) ⌝ }
-{
-    sweep::records(out, 0, hs, ys, xs, truth);
-    let start = start_of(n);
-    sweep::records(&mut out[start..], 1, vs, xs, ys, truth);
-}
-
-// Counts the records, and has them in loc where there is room for them.
-fn gather(loc: &mut [i32], hs: &[u32], vs: &[u32], xs: &[u32], ys: &[u32], truth: &[bool]) -> Both
-    requires { ⌜ BothOk (now hs) (now vs) (now xs) (now ys) (now truth) ⌝ }
-    ensures { λ r. ⌜ Gathered (now (loc .entry)) (swept 0 (now (hs .entry)) (now (ys .entry)) (now (xs .entry)) (now (truth .entry))) (swept 1 (now (vs .entry)) (now (xs .entry)) (now (ys .entry)) (now (truth .entry))) (now (loc .exit)) r ⌝ }
-{
-    let h = sweep::records(loc, 0, hs, ys, xs, truth);
-    let start = start_of(h);
-    if loc.len() < start {
-        let v = count(1, vs, xs, ys, truth);
-        return Both {
-            level: h,
-            upright: v,
-        };
+    let mut g = 0;
+    let mut all = 0;
+    let mut last = 0;
+    let mut sum = 0;
+    while g < ws.len() {
+        let f = sweep::fill(
+            loc,
+            g,
+            sum,
+            ws,
+            base,
+            layers,
+            ends,
+            vx,
+            truth,
+            c,
+            covers,
+            told,
+            marks,
+        );
+        last = f.count;
+        verticals::count(&loc[0..last], cs);
+        all += last;
+        sum = f.sum;
+        g = f.next;
     }
-    let v = sweep::records(&mut loc[start..], 1, vs, xs, ys, truth);
-    Both {
-        level: h,
-        upright: v,
-    }
+    Measured { all, last, sum }
 }
 
-// The first n numbers of src to the front of out.
-fn copy_in(out: &mut [i32], src: &[i32], n: usize)
-    requires { ⌜ (n ≤ length (now src)) × (n ≤ length (now out)) ⌝ }
-    ensures { λ _. ⌜ now (out .exit) ≡ take n (now (src .entry)) ++ drop n (now (out .entry)) ⌝ }
+// The horizontals of a part, as records from number n on.
+fn put_levels(ws: &[u64], vx: &[u32], n: usize, out: &mut [i32])
+    requires { ⌜ LevelsOk (now ws) (now vx) n ⌝ }
+    ensures { λ _. ⌜ now (out .exit) ≡ levelled (now (vx .entry)) (now (ws .entry)) n (now (out .entry)) ⌝ }
 {
     let mut i = 0;
-    while i < n {
-        out[i] = src[i];
+    while i < ws.len() {
+        let w = ws[i];
+        let y = horizontal::height(w);
+        let f = horizontal::rank_from(w);
+        let t = horizontal::rank_to(w);
+        records::put(out, n + i, 0, y, vx[f], vx[t]);
         i += 1;
     }
 }
 
-// The records of both kinds, with room to gather them in.
-fn write_by(
-    out: &mut [i32],
-    loc: &mut [i32],
-    hs: &[u32],
-    vs: &[u32],
-    xs: &[u32],
-    ys: &[u32],
-    truth: &[bool],
-) -> Written
-    requires { ⌜ BothOk (now hs) (now vs) (now xs) (now ys) (now truth) ⌝ }
-    ensures { λ r. ⌜ Wrote (now (hs .entry)) (now (vs .entry)) (now (xs .entry)) (now (ys .entry)) (now (truth .entry)) (now (out .entry)) (now (out .exit)) r ⌝ }
+// A part of h horizontals: their records from number n on, and their ends into the verticals, which are lent the buffer from just after the horizontals.
+fn put_part(ws: &[u64], n: usize, h: usize, vx: &[u32], cs: &mut [u32], out: &mut [i32])
+    requires { ⌜ PartOk (now ws) n h (now vx) (now cs) (now out) ⌝ }
+    ensures { λ _. ⌜ Parted (now (ws .entry)) n h (now (vx .entry)) (now (cs .entry)) (now (cs .exit)) (now (out .entry)) (now (out .exit)) ⌝ }
 {
-    let both = gather(loc, hs, vs, xs, ys, truth);
-    let h = both.level;
-    let all = h + both.upright;
-    let n = start_of(all);
-    if out.len() < n {
-        return Written::Short(all as u64);
-    }
-    if n <= loc.len() {
-        copy_in(out, loc, n);
-        return Written::All(all as u64);
-    }
-    place(out, h, hs, vs, xs, ys, truth);
-    Written::All(all as u64)
+    put_levels(ws, vx, n, out);
+    let start = 4 * h;
+    verticals::place(ws, vx, cs, &mut out[start..]);
 }
 
-// The records of both kinds, in order: hs are the corners' keys by y, vs by x, and xs and ys the tables of their coordinates.
+// Where the horizontals were too many for the working array: the sweep once more, each part written as it is found.
+fn again(
+    h: usize,
+    out: &mut [i32],
+    loc: &mut [u64],
+    cs: &mut [u32],
+    ws: &[u64],
+    base: u32,
+    layers: &[u8],
+    ends: &[u16],
+    vx: &[u32],
+    truth: &[bool],
+    c: &mut [u16],
+    covers: &mut [u8],
+    told: &mut [u8],
+    marks: &mut [u16],
+)
+    requires { ⌜ AgainOk base (now ws) (now layers) (now ends) (now truth) (now vx) h (now out) (now loc) (now cs) (now c) (now covers) (now told) (now marks) ⌝ }
+    ensures { λ _. ⌜ now (out .exit) ≡ written (now (vx .entry)) (linesTo base (now (ws .entry)) (now (layers .entry)) (now (ends .entry)) (now (truth .entry)) (length (now (vx .entry))) (length (now (ws .entry)))) (now (out .entry)) ⌝ }
+{
+    let mut g = 0;
+    let mut n = 0;
+    while g < ws.len() {
+        let f = sweep::fill(
+            loc,
+            g,
+            0,
+            ws,
+            base,
+            layers,
+            ends,
+            vx,
+            truth,
+            c,
+            covers,
+            told,
+            marks,
+        );
+        let count = f.count;
+        put_part(&loc[0..count], n, h, vx, cs, out);
+        n += count;
+        g = f.next;
+    }
+}
+
+fn counted(h: usize, fits: bool, cells: u64) -> Found
+    requires { ⌜ h ≤ 33554432 ⌝ }
+    ensures { λ r. ⌜ (r .records ≡ 2 * h) × (r .fits ≡ fits) × (r .cells ≡ cells) ⌝ }
+{
+    Found {
+        records: 2 * h as u64,
+        fits,
+        cells,
+    }
+}
+
+// The records of all lines: the horizontals, and the verticals from just after them. As many verticals as horizontals are needed, so that it is known
+// whether there is room before anything is written. What the working arrays hold at the end is of no use.
+// Cost: the sweep, twice where the horizontals are more than loc holds, and the records.
 pub fn write(
     out: &mut [i32],
-    hs: &[u32],
-    vs: &[u32],
-    xs: &[u32],
-    ys: &[u32],
+    loc: &mut [u64],
+    cs: &mut [u32],
+    ws: &[u64],
+    base: u32,
+    layers: &[u8],
+    ends: &[u16],
+    vx: &[u32],
     truth: &[bool],
-) -> Written
-    requires { ⌜ BothOk (now hs) (now vs) (now xs) (now ys) (now truth) ⌝ }
-    ensures { λ r. ⌜ Wrote (now (hs .entry)) (now (vs .entry)) (now (xs .entry)) (now (ys .entry)) (now (truth .entry)) (now (out .entry)) (now (out .exit)) r ⌝ }
+    c: &mut [u16],
+    covers: &mut [u8],
+    told: &mut [u8],
+    marks: &mut [u16],
+) -> Found
+    requires { ⌜ WriteOk base (now ws) (now layers) (now ends) (now truth) (now vx) (now loc) (now cs) (now c) (now covers) (now told) (now marks) ⌝ }
+    ensures { λ r. ⌜ Wrote (now (vx .entry)) (linesTo base (now (ws .entry)) (now (layers .entry)) (now (ends .entry)) (now (truth .entry)) (length (now (vx .entry))) (length (now (ws .entry)))) (now (out .entry)) (now (out .exit)) r ⌝ }
 {
-    if hs.len() <= FEW_CORNERS {
-        let mut loc = [0i32; FEW];
-        return write_by(out, &mut loc, hs, vs, xs, ys, truth);
+    let m = measure(
+        loc,
+        cs,
+        ws,
+        base,
+        layers,
+        ends,
+        vx,
+        truth,
+        c,
+        covers,
+        told,
+        marks,
+    );
+    let h = m.all;
+    if out.len() < 8 * h {
+        return counted(h, false, m.sum);
     }
-    let mut loc = [0i32; MANY];
-    write_by(out, &mut loc, hs, vs, xs, ys, truth)
+    verticals::starts(cs);
+    if m.last == h {
+        put_part(&loc[0..h], 0, h, vx, cs, out);
+        return counted(h, true, m.sum);
+    }
+    again(
+        h,
+        out,
+        loc,
+        cs,
+        ws,
+        base,
+        layers,
+        ends,
+        vx,
+        truth,
+        c,
+        covers,
+        told,
+        marks,
+    );
+    counted(h, true, m.sum)
 }

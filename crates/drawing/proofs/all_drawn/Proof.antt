@@ -6,7 +6,7 @@ use mir.ValLaws.{toZ-ofZ}
 use borrow.Author.Needs.{needs}
 use Rattle.meaning.specs.Numbers.{inRange}
 use Rattle.meaning.specs.Drawn.{farthest, allDrawn}
-use Rattle.basics.specs.Signed.{told-no, told-yes}
+use Rattle.basic_laws.specs.Signed.{told-no, told-yes}
 use Rattle.drawing.proofs.all_drawn.Statement.{statement}
 use Rattle.drawing.proofs.all_drawn.Tie as tie
 

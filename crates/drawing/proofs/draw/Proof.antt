@@ -13,7 +13,7 @@ use borrow.Author.Needs.{needs, sfits-of}
 use borrow.Author.Tests.{not-true, not-false}
 use Rattle.meaning.specs.Numbers.{eqZ}
 use Rattle.meaning.specs.Drawn.{viewInRange, recordInRange}
-use Rattle.basics.specs.Signed.{eqZ-true, eqZ-false}
+use Rattle.basic_laws.specs.Signed.{eqZ-true, eqZ-false}
 use Rattle.drawing.proofs.Tests.{view-zoom}
 use Rattle.drawing.proofs.Rows.{view-refused, record-refused, ends-refused, goes-on}
 use Rattle.drawing.proofs.draw.Statement.{statement}

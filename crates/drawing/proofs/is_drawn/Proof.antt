@@ -2,7 +2,7 @@
 use mir.Syntax.{w64}
 use mir.Val.{toZ, ofZ}
 use mir.ValLaws.{toZ-ofZ}
-use Rattle.basics.specs.Signed.{within, outside}
+use Rattle.basic_laws.specs.Signed.{within, outside}
 use Rattle.drawing.proofs.is_drawn.Statement.{statement}
 use Rattle.drawing.proofs.is_drawn.Tie as tie
 

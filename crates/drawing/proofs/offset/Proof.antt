@@ -4,7 +4,7 @@ use lib.IntN.{_-ℤ_}
 use mir.Syntax.{w64}
 use mir.Val.{SFits}
 use mir.ValLaws.{toZ-ofZ}
-use Rattle.basics.specs.Signed.{widens, widened}
+use Rattle.basic_laws.specs.Signed.{widens, widened}
 use Rattle.drawing.proofs.Tests.{minus-fits}
 use Rattle.drawing.proofs.offset.Statement.{statement}
 use Rattle.drawing.proofs.offset.Tie as tie

@@ -6,7 +6,7 @@ use mir.ValLaws.{toZ-ofZ}
 use borrow.Author.Needs.{needs}
 use Rattle.meaning.specs.Numbers.{zeroTo, limit, inRange}
 use Rattle.meaning.specs.Drawn.{recordInRange}
-use Rattle.basics.specs.Signed.{told-no, told-yes}
+use Rattle.basic_laws.specs.Signed.{told-no, told-yes}
 use Rattle.drawing.proofs.record_in_range.Statement.{statement}
 use Rattle.drawing.proofs.record_in_range.Tie as tie
 

@@ -3,7 +3,7 @@ use mathlib.Core.Path.{_≡_}
 use mathlib.Core.Bool.{true}
 use native.Mathlib.Omega.{arith}
 use Rattle.meaning.specs.Numbers.{limit, inRange}
-use Rattle.basics.specs.Fours.{part}
+use Rattle.basic_laws.specs.Fours.{part}
 use Rattle.edge.specs.Keys.{number-in, coordinate-above, lift-is}
 use borrow.Author.Needs.{needs}
 use Rattle.edge.proofs.coordinate.Statement.{statement}

@@ -2,8 +2,8 @@
 use mathlib.Core.Path.{sym, ap₂, _∙_}
 use lib.Dec.{eqb}
 use Rattle.meaning.specs.Edges.{flat}
-use Rattle.basics.specs.Fours.{part, edgeAt}
-use Rattle.basics.specs.Signed.{eq-key}
+use Rattle.basic_laws.specs.Fours.{part, edgeAt}
+use Rattle.basic_laws.specs.Signed.{eq-key}
 use borrow.Author.Needs.{needs}
 use Rattle.edge.proofs.equal_ends.Statement.{statement}
 use Rattle.edge.proofs.equal_ends.Tie as tie

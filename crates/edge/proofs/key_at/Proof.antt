@@ -3,7 +3,7 @@ use mathlib.Core.Path.{ap, _∙_}
 use Prim.Native.Nat.{_+_, _*_}
 use lib.IntN.{pos}
 use lib.ListN.{getD}
-use Rattle.basics.specs.Signed.{keyOf, read32}
+use Rattle.basic_laws.specs.Signed.{keyOf, read32}
 use borrow.Author.Needs.{needs}
 use Rattle.edge.proofs.key_at.Statement.{statement}
 use Rattle.edge.proofs.key_at.Tie as tie

@@ -1,8 +1,8 @@
 -- `edge::layer` meets its contract. Assumes nothing.
 use native.Mathlib.Omega.{arith}
 use Rattle.meaning.specs.Numbers.{limit}
-use Rattle.basics.specs.Fours.{part, edgeAt}
-use Rattle.basics.specs.Sound.{SoundParts, sound-parts, layer-low}
+use Rattle.basic_laws.specs.Fours.{part, edgeAt}
+use Rattle.basic_laws.specs.Sound.{SoundParts, sound-parts, layer-low}
 use Rattle.edge.specs.Keys.{layer-above, layer-is}
 use borrow.Author.Needs.{needs}
 use Rattle.edge.proofs.layer.Statement.{statement}

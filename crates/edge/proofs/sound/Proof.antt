@@ -5,7 +5,7 @@ use lib.IntN.{pos}
 use lib.Signed.{leZ}
 use Rattle.meaning.specs.Numbers.{limit, inRange}
 use Rattle.meaning.specs.Edges.{soundEdge}
-use Rattle.basics.specs.Fours.{part, edgeAt}
+use Rattle.basic_laws.specs.Fours.{part, edgeAt}
 use Rattle.edge.specs.Keys.{layer-key, coordinate-key}
 use borrow.Author.Needs.{needs}
 use borrow.Author.Tests.{not-true, not-false}
@@ -19,11 +19,11 @@ is-layer-requires : tie.Need-is-layer-requires
 is-layer-requires c κs = search needs
 
 -- what each test was told
-layer-told : (c : tie.After-is-layer) → let s = c .before .before in c .is-layer .result ≡ (leZ (pos 0) (part (s .args .edges .now) (s .args .k) 0) && leZ (part (s .args .edges .now) (s .args .k) 0) (pos (s .args .top)))
+layer-told : (c : tie.After-is-layer) → let s = c .before .before in c .is-layer .result ≡ (leZ (pos 0) (part (s .args .edges .now) (s .args .k) 0) && leZ (part (s .args .edges .now) (s .args .k) 0) (pos 7))
 layer-told c =
     let s = c .before .before in
     let k = c .before .key-at in
-    c .is-layer .ensures ∙ layer-key (part (s .args .edges .now) (s .args .k) 0) (s .args .top) (k .result) (s .pre .1) (k .ensures)
+    c .is-layer .ensures ∙ layer-key (part (s .args .edges .now) (s .args .k) 0) (k .result) (k .ensures)
 
 y-told : (c : tie.After-is-coordinate) → let s = c .before .before .before .before .before in c .is-coordinate .result ≡ inRange limit (part (s .args .edges .now) (s .args .k) 1)
 y-told c =
@@ -37,7 +37,7 @@ from-told c =
     let k = c .before .key-at3 in
     c .is-coordinate2 .ensures ∙ coordinate-key (part (s .args .edges .now) (s .args .k) 2) (k .result) (k .ensures)
 
-layer-ok : (c : tie.Else1) → let s = c .before .before .before in (leZ (pos 0) (part (s .args .edges .now) (s .args .k) 0) && leZ (part (s .args .edges .now) (s .args .k) 0) (pos (s .args .top))) ≡ true
+layer-ok : (c : tie.Else1) → let s = c .before .before .before in (leZ (pos 0) (part (s .args .edges .now) (s .args .k) 0) && leZ (part (s .args .edges .now) (s .args .k) 0) (pos 7)) ≡ true
 layer-ok c = sym (layer-told (c .before)) ∙ not-false _ (c .if1 .left)
 
 y-ok : (c : tie.Else2) → let s = c .before .before .before .before .before .before in inRange limit (part (s .args .edges .now) (s .args .k) 1) ≡ true

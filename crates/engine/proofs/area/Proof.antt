@@ -1,36 +1,47 @@
 -- `engine::area` meets its contract. Assumes nothing.
-use mathlib.Core.Path.{ap, subst}
-use Rattle.meaning.specs.Answers.{Answer, First}
-use Rattle.meaning.specs.Calls.{callRows}
-use Rattle.laws.specs.Accepting.{Passed}
-use Rattle.demands.specs.Rows.{area-refused}
-use Rattle.joining.specs.Joining.{passed-is}
+use Rattle.walking.specs.WalkLaws.{cells-all, cells-short, cells-none}
 use borrow.Author.Needs.{needs}
 use Rattle.engine.proofs.area.Statement.{statement}
 use Rattle.engine.proofs.area.Tie as tie
 
-judge-requires : tie.Need-judge-requires
-judge-requires c κs = search needs
+slice-aggregate-walk : tie.Need-slice-aggregate-walk
+slice-aggregate-walk c = search needs
 
-returns : tie.Need-returns
-returns c =
-    let s = c .before .before .before .before in
-    let j = c .before .before .judge in
-    area-refused (s .args .edges .now) (s .args .text .now) _ (j .ensures) (λ e. c .if1 .taken (ap (λ (a : Answer). a .number) e))
-
-cells-requires : tie.Need-cells-requires
-cells-requires c κs =
-    let s = c .before .before .before .before in
-    let j = c .before .before .judge in
-    let ns = s .args .edges .now in
-    let text = s .args .text .now in
-    subst (First (callRows ns text) Passed) (passed-is ns text _ (j .ensures) (c .if1 .left)) (j .ensures)
+walk-requires : tie.Need-walk-requires
+walk-requires c κs = search needs
 
 accepted-requires : tie.Need-accepted-requires
 accepted-requires c κs = search needs
 
+returns : tie.Need-returns
+returns c =
+    let k = c .before .before .before .before .before in
+    let s = k .before .before .before in
+    rw (c .accepted .ensures) (cells-all (s .args .edges .now) (s .args .text .now) _ (k .walk .ensures) (c .before .if1 .taken))
+
+accepted-requires-2 : tie.Need-accepted-requires-2
+accepted-requires-2 c κs = search needs
+
 returns-2 : tie.Need-returns-2
-returns-2 c = rw (c .accepted .ensures) (c .before .cells .ensures)
+returns-2 c =
+    let k = c .before .before .before .before .before .before .before in
+    let s = k .before .before .before in
+    rw (c .accepted2 .ensures) (cells-short (s .args .edges .now) (s .args .text .now) _ (k .walk .ensures) (c .before .if2 .taken))
+
+returns-3 : tie.Need-returns-3
+returns-3 c =
+    let k = c .before .before .before .before .before .before in
+    let s = k .before .before .before in
+    cells-none (s .args .edges .now) (s .args .text .now) _ (k .walk .ensures) (c .before .before .if1 .left) (c .if2 .left)
 
 pub area-spec : {M : Type 1} → statement M
-area-spec = tie.close (tie.spec judge-requires returns cells-requires accepted-requires returns-2)
+area-spec =
+    tie.close
+    (tie.spec
+    slice-aggregate-walk
+    walk-requires
+    accepted-requires
+    returns
+    accepted-requires-2
+    returns-2
+    returns-3)

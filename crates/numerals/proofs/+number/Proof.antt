@@ -1,6 +1,6 @@
 use native.Mathlib.Omega.{arith}
 use borrow.Author.Needs.{needs}
-use Rattle.text_laws.specs.Decimals.{small-length, large-length}
+use Rattle.printed_laws.specs.Decimals.{small-length, large-length}
 use Rattle.numerals.proofs.Digits.{first-digit, last-digit}
 use Prim.Native.Nat.{ℕ, _<_}
 use borrow.Fn.Kinds.{In}

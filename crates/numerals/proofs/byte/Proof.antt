@@ -1,5 +1,5 @@
 use borrow.Author.Needs.{needs}
-use Rattle.text_laws.specs.Stores.{one-byte}
+use Rattle.printed_laws.specs.Stores.{one-byte}
 use Rattle.numerals.proofs.byte.Statement.{statement}
 use Rattle.numerals.proofs.byte.Tie as tie
 

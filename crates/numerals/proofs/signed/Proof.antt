@@ -1,7 +1,7 @@
 use mathlib.Core.Path.{ap}
 use Rattle.meaning.specs.Printed.{signedText}
-use Rattle.text_laws.specs.Stores.{as-text}
-use Rattle.basics.specs.Signed.{widens, widened}
+use Rattle.printed_laws.specs.Stores.{as-text}
+use Rattle.basic_laws.specs.Signed.{widens, widened}
 use borrow.Author.Needs.{needs}
 use Rattle.numerals.proofs.signed.Statement.{statement}
 use Rattle.numerals.proofs.signed.Tie as tie

@@ -1,7 +1,7 @@
 use mathlib.Core.Path.{refl, sym, ap}
 use native.Mathlib.Omega.{arith}
 use lib.ListN.{length}
-use Rattle.text_laws.specs.Stores.{and-then, as-text}
+use Rattle.printed_laws.specs.Stores.{and-then, as-text}
 use Rattle.numerals.proofs.Digits.{with-sign, without-sign}
 use borrow.Author.Needs.{needs}
 use Rattle.numerals.proofs.signed_wide.Statement.{statement}

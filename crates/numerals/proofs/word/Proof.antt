@@ -4,7 +4,7 @@ use native.Mathlib.Omega.{arith}
 use lib.ListN.{length, take}
 use lib.Seq.{take-all}
 use borrow.Author.Needs.{needs}
-use Rattle.text_laws.specs.Stores.{Written, nothing, as-text}
+use Rattle.printed_laws.specs.Stores.{Written, nothing, as-text}
 use Rattle.numerals.proofs.Digits.{next-byte}
 use Rattle.numerals.proofs.word.Statement.{statement}
 use Rattle.numerals.proofs.word.Tie as tie

@@ -1,6 +1,6 @@
 -- `readers::covered` meets its contract. Assumes nothing.
 use borrow.Author.Needs.{needs}
-use Rattle.basics.specs.Bits.{bitAt}
+use Rattle.basic_laws.specs.Bits.{bitAt}
 use Rattle.readers.proofs.covered.Statement.{statement}
 use Rattle.readers.proofs.covered.Tie as tie
 

@@ -3,7 +3,7 @@ use borrow.Author.Needs.{needs}
 use mathlib.Core.Path.{ap, _∙_}
 use lib.IntN.{pos}
 use lib.ListN.{getD}
-use Rattle.basics.specs.Signed.{keyOf, read32}
+use Rattle.basic_laws.specs.Signed.{keyOf, read32}
 use Rattle.rings.proofs.number.Statement.{statement}
 use Rattle.rings.proofs.number.Tie as tie
 

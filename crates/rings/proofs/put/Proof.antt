@@ -3,7 +3,7 @@ use borrow.Author.Needs.{needs}
 use mathlib.Core.Path.{sym, ap, _∙_}
 use lib.ListN.{set}
 use lib.Seq.{set-out}
-use Rattle.basics.specs.Signed.{read32}
+use Rattle.basic_laws.specs.Signed.{read32}
 use Rattle.rings.proofs.put.Statement.{statement}
 use Rattle.rings.proofs.put.Tie as tie
 

@@ -2,7 +2,7 @@
 use mir.Syntax.{w32}
 use mir.Val.{toZ, ofZ}
 use mir.ValLaws.{toZ-ofZ}
-use Rattle.basics.specs.Signed.{within, outside}
+use Rattle.basic_laws.specs.Signed.{within, outside}
 use Rattle.whole.proofs.in_range.Statement.{statement}
 use Rattle.whole.proofs.in_range.Tie as tie
 

@@ -7,7 +7,7 @@ use native.Mathlib.Omega.{arith}
 use mir.Syntax.{w32, w64}
 use mir.Val.{Fits, SFits, toZ, ofZ}
 use mir.Facts.{toZ-ofZ}
-use Rattle.basics.specs.Signed.{keyOf, key-up, key-fits, widens, widened}
+use Rattle.basic_laws.specs.Signed.{keyOf, key-up, key-fits, widens, widened}
 use Rattle.whole.proofs.key.Statement.{statement}
 use Rattle.whole.proofs.key.Tie as tie
 

@@ -1,5 +1,5 @@
 -- `whole::same` meets its contract. Assumes nothing.
-use Rattle.basics.specs.Signed.{eq-bits}
+use Rattle.basic_laws.specs.Signed.{eq-bits}
 use Rattle.whole.proofs.same.Statement.{statement}
 use Rattle.whole.proofs.same.Tie as tie
 

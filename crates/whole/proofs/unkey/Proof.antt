@@ -7,8 +7,8 @@ use mir.Syntax.{w32, w64}
 use mir.Val.{Fits, SFits, toZ, ofZ}
 use mir.Facts.{toZ-ofZ, toZ-pos, sfits-widen}
 use borrow.Author.Needs.{needs}
-use Rattle.basics.specs.Signed.{unkeyOf}
-use Rattle.basics.specs.Signed.{unkey-fits}
+use Rattle.basic_laws.specs.Signed.{unkeyOf}
+use Rattle.basic_laws.specs.Signed.{unkey-fits}
 use Rattle.whole.proofs.unkey.Statement.{statement}
 use Rattle.whole.proofs.unkey.Tie as tie
 

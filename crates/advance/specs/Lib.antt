@@ -1,2 +1,0 @@
--- One place's corners onto the rows.
-pub mod Advanced

@@ -1,3 +1,0 @@
--- What the contracts of `arrange` cite.
-pub mod Events
-pub mod Pass

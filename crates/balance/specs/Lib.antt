@@ -1,2 +1,0 @@
--- What the contracts of `balance` cite.
-pub mod Balanced

@@ -1,3 +1,0 @@
--- What the contracts of `columns` cite, and its laws.
-pub mod Kept
-pub mod Laws

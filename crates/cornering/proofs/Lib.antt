@@ -1,2 +1,0 @@
--- Laws of the room that is lent.
-pub mod Lending

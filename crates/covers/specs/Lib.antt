@@ -1,2 +1,0 @@
--- What the steps of `depends` compute.
-pub mod Changing

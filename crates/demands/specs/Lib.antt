@@ -1,4 +1,0 @@
--- What is shown of the calls run and area.
-pub mod Judging
-pub mod Rows
-pub mod Parts

@@ -1,0 +1,3 @@
+-- A horizontal record by ranks.
+pub mod Words
+pub mod Lines

@@ -1,3 +1,0 @@
--- Corners as keys.
-pub mod Key
-pub mod KeyLaws

@@ -1,0 +1,3 @@
+-- The horizontals of one line.
+pub mod Line
+pub mod LevelLaws

@@ -1,0 +1,3 @@
+-- An edge list in steps, and its laws.
+pub mod InSteps
+pub mod Columns

@@ -1,2 +1,0 @@
--- The records of one line.
-pub mod Line

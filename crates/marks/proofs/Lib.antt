@@ -1,0 +1,3 @@
+pub mod SumLaws
+pub mod FlatLaws
+pub mod AllLaws

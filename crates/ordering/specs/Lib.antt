@@ -1,2 +1,0 @@
--- What the contracts of `ordering` cite.
-pub mod Both

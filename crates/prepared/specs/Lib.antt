@@ -1,2 +1,0 @@
--- What the contract of `prepared` cites, and how it is met.
-pub mod Prepared

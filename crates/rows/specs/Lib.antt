@@ -1,2 +1,0 @@
--- Rows of counts.
-pub mod Rows

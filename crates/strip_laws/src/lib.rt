@@ -1,0 +1,1 @@
+// Laws only: what the sweep by ranks finds is what the edges in steps have.

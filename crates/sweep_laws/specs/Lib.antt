@@ -1,0 +1,3 @@
+-- The horizontals that the sweep finds.
+pub mod Lines
+pub mod Steps

@@ -1,0 +1,1 @@
+// Laws and no program: the horizontals that the sweep finds, in specs/.

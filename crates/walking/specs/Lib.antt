@@ -1,0 +1,4 @@
+-- A walk: what run and area answer, from one sweep.
+pub mod Walks
+pub mod Working
+pub mod WalkLaws
