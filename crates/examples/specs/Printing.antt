@@ -1,7 +1,7 @@
 -- The program's example in document 01, as a theorem about what the program prints. Assumes nothing.
 --
 --   mask              the rings of the example: A and B
---   printed-example   THE EXAMPLE: for `a*b`, a textLine feed and the 13 bytes of the mask file the program prints the six lines
+--   printed-example   THE EXAMPLE: for `a*b`, a line feed and the 13 bytes of the mask file the program prints the six lines
 use mathlib.Core.Path.{_≡_, refl, ap, subst}
 use mathlib.Core.List.{List, [], _∷_, _++_}
 use Prim.Native.Nat.{ℕ, _*_}

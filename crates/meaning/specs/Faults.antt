@@ -3,8 +3,8 @@
 --   Begun              what has been read: whole rings, and a ring up to the number that is due
 --   after b z          what has been read after the due number z
 --   Beside zs k z      z, due after the coordinates zs of a ring of k pairs, equals a cyclic neighbour
---   DueJudged L b z p     the table for the due number z at the place p: 15, 16, 17
---   Stores b v z        a file stores z, due after b, as the number v
+--   DueJudged L b z p  the table for the due number z at the place p: 15, 16, 17
+--   Stores b v z       a file stores z, due after b, as the number v
 --   Begins ..          no number of a beginning is faulty
 --   FileFault, ListFault   the first faulty number of a file, of a ring list
 --   Laid made out      the end of a table: the room is too short, or made is written

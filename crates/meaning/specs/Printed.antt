@@ -4,12 +4,12 @@
 --   digits f n            the decimal digits of n, the first not 0, and none where n is 0; n has at most f of them
 --   decimal n             n in decimal without leading zeros
 --   signedText z          a whole number, with `-` before a negative one
---   textLine words            the words with one blank between neighbours, and a textLine feed at the end
---   firstLine a           the first textLine: the number and the value of the answer a
---   recordLine r          the textLine of a record: its four numbers
+--   textLine words        the words with one blank between neighbours, and a line feed at the end
+--   firstLine a           the first line: the number and the value of the answer a
+--   recordLine r          the line of a record: its four numbers
 --   recordLines rs        the lines of the records rs
---   areaLine n            the last textLine: `area` and the number n of cells
---   rest k rs n           what follows the first textLine of an answer of the number k
+--   areaLine n            the last line: `area` and the number n of cells
+--   rest k rs n           what follows the first line of an answer of the number k
 --   printed a rs n        the whole text of the answer a, which has the records rs and n inside cells where its number is 0
 --
 -- A text is a list of bytes.
@@ -58,7 +58,7 @@ recordLines (r ∷ rs) = recordLine r ++ recordLines rs
 unfoldable pub areaLine : ℕ → List ℕ
 areaLine n = textLine ((code "a" ∷ code "r" ∷ code "e" ∷ code "a" ∷ []) ∷ decimal n ∷ [])
 
--- "then on 0 each record, then `area` and the cells"; "On a refusal it prints the first textLine only."
+-- "then on 0 each record, then `area` and the cells"; "On a refusal it prints the first line only."
 abbrev pub rest : ℕ → List (Record ℤ) → ℕ → List ℕ
 rest zero rs n = recordLines rs ++ areaLine n
 rest (suc number) rs n = []

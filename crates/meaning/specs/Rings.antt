@@ -9,8 +9,8 @@
 --   GoodRing L r       a ring that the paper allows, with coordinates from -L to L
 --   pairsIn rs         the pairs of all rings
 --   GoodRings L rs     a ring list that the paper allows
---   ringNumbers rs       the ring list in memory
---   ringEdges rs         the numbers of its edges
+--   ringNumbers rs     the ring list in memory
+--   ringEdges rs       the numbers of its edges
 --
 -- The limit is a parameter throughout.
 use mathlib.Core.Path.{_≡_}
@@ -89,7 +89,7 @@ unfoldable pub ringNumbers : List Ring → List ℤ
 ringNumbers [] = []
 ringNumbers (r ∷ rs) = pos (r .layer) ∷ pos (length (r .pairs)) ∷ pairNumbers (r .pairs) ++ ringNumbers rs
 
--- "Its k edges run at y_i from x_i to x_(i+1), the last back to x1." An side is "layer, y, from, to"
+-- "Its k edges run at y_i from x_i to x_(i+1), the last back to x1." An edge is "layer, y, from, to"
 abbrev pub side : ℕ → Pair → Pair → List ℤ
 side l p q = pos l ∷ p .y ∷ p .x ∷ q .x ∷ []
 

@@ -1,13 +1,13 @@
 -- Lines over plain numbers, four to a record, as a buffer of records holds them. Assumes nothing.
 --
---   numberLine a b c d      the textLine of four numbers
+--   numberLine a b c d      the line of four numbers
 --   lineAt ns j             that of the four numbers from place j on
---   numberLines ns          the lines of a list of numbers, four to a textLine
+--   numberLines ns          the lines of a list of numbers, four to a line
 --   acceptedText v ns n     the text of the answer 0 with the value v, the records' numbers ns and n cells
 --   printed-accepted        it is what the program prints of records that have these numbers
---   printed-refused         a refusal is printed as its first textLine
+--   printed-refused         a refusal is printed as its first line
 --   lines-none, lines-more  the lines from place j on, where fewer than four numbers are left, and where not
---   first-words, record-words, area-words   a textLine, each word with the byte after it
+--   first-words, record-words, area-words   a line, each word with the byte after it
 use mathlib.Core.Path.{_≡_, refl, sym, ap, _∙_}
 use mathlib.Core.List.{List, [], _∷_, _++_, append-assoc, append-nil}
 use Prim.Native.Nat.{ℕ, zero, suc, _+_, _-_, _≤_, _<_}
@@ -29,7 +29,7 @@ numberLines (a ∷ b ∷ []) = []
 numberLines (a ∷ b ∷ c ∷ []) = []
 numberLines (a ∷ b ∷ c ∷ d ∷ ns) = numberLine a b c d ++ numberLines ns
 
--- the textLine of the four numbers from place j on
+-- the line of the four numbers from place j on
 unfoldable pub lineAt : List ℤ → ℕ → List ℕ
 lineAt ns j = numberLine (getD ns j (pos 0)) (getD ns (j + 1) (pos 0)) (getD ns (j + 2) (pos 0)) (getD ns (j + 3) (pos 0))
 

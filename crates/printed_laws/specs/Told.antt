@@ -37,7 +37,7 @@ digits-all : {n : ℕ} {t : List ℕ} → Decimal n t → All (λ b. (48 ≤ b) 
 digits-all (one {d} h) = ((omega arith, omega arith), tt)
 digits-all (more {n} {d} {t} p h before) = all-append _ t (digit d ∷ []) (digits-all before) ((omega arith, omega arith), tt)
 
--- ---- words: no blank and no textLine feed, which are bytes up to 32
+-- ---- words: no blank and no line feed, which are bytes up to 32
 
 Word : List ℕ → Type 0
 Word t = All (λ b. 32 < b) t
@@ -100,7 +100,7 @@ letters-word : Word letters
 unfolding Word letters
 letters-word = (omega arith, (omega arith, (omega arith, (omega arith, tt))))
 
--- the last textLine does not begin as a record's textLine does
+-- the last line does not begin as a record's line does
 not-area : (kind n : ℕ) (t : List ℕ) → areaLine n ≡ decimal kind ++ (32 ∷ t) → ⊥
 unfolding letters
 not-area kind n t e =

@@ -2,7 +2,7 @@
 --
 --   edgesBegun b    the edges that are ended in the beginning b
 --   edges-after     a due number ends what the code writes at it
---   ended-most      that is one side at most
+--   ended-most      that is one edge at most
 use mathlib.Core.Path.{_≡_, refl, sym, ap, ap₂, _∙_}
 use mathlib.Core.Bool.{Bool, true, false}
 use mathlib.Core.List.{List, [], _∷_, _++_, append-nil, append-assoc}

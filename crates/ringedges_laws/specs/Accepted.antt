@@ -15,7 +15,7 @@ use lib.Signed.{leZ}
 use borrow.Author.Tests.{le-leb}
 use Rattle.meaning.specs.Numbers.{bit, eqZ}
 use Rattle.meaning.specs.Edges.{Edge, edge, edgesOf, edgeNumbers, on, number, Closed, soundEdge, flat}
-use Rattle.meaning.specs.Rings.{Pair, Ring, backTo, cyclic, xs, InRange, GoodRing, GoodRings, pairsIn, side as edgeWords, edgesBetween, ringEdges as ringEdges}
+use Rattle.meaning.specs.Rings.{Pair, Ring, backTo, cyclic, xs, InRange, GoodRing, GoodRings, pairsIn, side as edgeWords, edgesBetween, ringEdges}
 use Rattle.basic_laws.specs.Lists.{All, all-append, number-append}
 use Rattle.basic_laws.specs.Signed.{eqZ-no}
 use Rattle.basic_laws.specs.Sound.{Sound}
