@@ -28,10 +28,10 @@ use Rattle.numbers.specs.Reading.{refuse, numberOf, reading}
 use Rattle.numbers.specs.declared.Reading.{Reading}
 use Rattle.numbers.specs.declared.Reading.the-variants.{Value, Refused}
 use Rattle.rings.specs.State.{isCoordinate, faultOf, judgedAs}
-use Rattle.rings.specs.StateOf.{stateOf, keyed}
+use Rattle.reading_laws.specs.StateOf.{stateOf, keyed}
 use Rattle.rings.specs.declared.State.{State}
-use Rattle.rings.proofs.Judging.{judged-value, judged-refused}
-use Rattle.rings.proofs.Standing.{Natural, zero-in}
+use Rattle.reading_laws.specs.Judging.{judged-value, judged-refused}
+use Rattle.reading_laws.specs.Standing.{Natural, zero-in}
 use Rattle.maskfile.specs.Due.{moved, valueOf, minusZero, dueInFile}
 
 abbrev pub meant : Begun → ℕ → ℤ

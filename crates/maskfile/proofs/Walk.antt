@@ -32,10 +32,10 @@ use Rattle.numbers.specs.Reading.{refuse}
 use Rattle.numbers.specs.declared.Reading.{Reading}
 use Rattle.numbers.specs.declared.Reading.the-variants.{Value, Refused}
 use Rattle.rings.specs.State.{start, mayEnd, faultOf, nextOf, Sane}
-use Rattle.rings.specs.StateOf.{stateOf, keyed}
-use Rattle.rings.specs.OutcomeLaws.{refuses, refuses-read}
+use Rattle.reading_laws.specs.StateOf.{stateOf, keyed}
+use Rattle.reading_laws.specs.OutcomeLaws.{refuses, refuses-read}
 use Rattle.rings.specs.declared.State.{State}
-use Rattle.rings.proofs.Standing.{Natural, verdict, next-state, sane, mag-below, not-end}
+use Rattle.reading_laws.specs.Standing.{Natural, verdict, next-state, sane, mag-below, not-end}
 use Rattle.maskfile.specs.Due.{valueOf, minusZero, dueInFile, liftedOf}
 use Rattle.maskfile.specs.Outcome.{RingsOutcome}
 use Rattle.maskfile.proofs.Stored.{meant, meant-natural, meant-means, coordinate-due, value-keyed, Taken, taken, Left, absent, malformed, minus, faulty, left}

@@ -20,7 +20,7 @@ use Rattle.ring_laws.specs.Calls.{some}
 use Rattle.numbers.specs.Reading.{answerOf, refuse, reading}
 use Rattle.numbers.specs.declared.Reading.{Reading}
 use Rattle.numbers.specs.declared.Reading.the-variants.{Value, Refused}
-use Rattle.rings.specs.OutcomeLaws.{refuses}
+use Rattle.reading_laws.specs.OutcomeLaws.{refuses}
 use Rattle.maskfile.specs.Outcome.{RingsOutcome, FileOutcome}
 
 -- ---- the edition

@@ -10,7 +10,7 @@ use Rattle.meaning.specs.Rings.{ringNumbers}
 use Rattle.meaning.specs.MaskFile.{five, bytesOf}
 use Rattle.meaning.specs.Faults.{RingFault, FileFault}
 use Rattle.numbers.specs.declared.Reading.{Reading}
-use Rattle.rings.specs.Outcome.{Outcome}
+use Rattle.reading_laws.specs.Outcome.{Outcome}
 
 abbrev pub RingsOutcome : List ℕ → List ℤ → Reading → List ℤ → Type 0
 RingsOutcome f out r after = Outcome (RingFault five limit f) (bytesOf five) ringNumbers f out r after

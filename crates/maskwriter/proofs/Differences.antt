@@ -18,8 +18,8 @@ use Rattle.meaning.specs.Faults.{Begun, at-layer, at-count, at-x, at-y, previou
 use Rattle.ring_laws.specs.Differences.{in-range}
 use Rattle.ring_laws.specs.Beginnings.{Fine, fine-x, fine-y, Good}
 use Rattle.ring_laws.specs.Forms.{previous-size, range-xs, range-ys}
-use Rattle.rings.specs.StateOf.{stateOf, keyed}
-use Rattle.rings.proofs.Standing.{Natural, zero-in}
+use Rattle.reading_laws.specs.StateOf.{stateOf, keyed}
+use Rattle.reading_laws.specs.Standing.{Natural, zero-in}
 use Rattle.maskwriter.specs.Stored.{difference, storedOf}
 
 sub-keys : (z p : ℤ) → natAbs z ≤ limit → natAbs p ≤ limit → z -ℤ p ≡ subℕ (keyOf z) (keyOf p)

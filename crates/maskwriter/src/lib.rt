@@ -9,7 +9,7 @@ ghost use Rattle.meaning.specs.MaskFile.{five, bytesOf};
 ghost use Rattle.meaning.specs.Faults.{Written};
 ghost use Rattle.answers.specs.Said.{said};
 ghost use Rattle.rings.specs.State.{greatest, Sane};
-ghost use Rattle.rings.specs.Outcome.{ListOutcome};
+ghost use Rattle.reading_laws.specs.Outcome.{ListOutcome};
 ghost use Rattle.maskwriter.specs.Stored.{difference, storedOf};
 
 // The stored difference of v from p.

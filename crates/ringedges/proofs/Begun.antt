@@ -19,8 +19,8 @@ use Rattle.meaning.specs.Rings.{Pair, pair, Ring, ring, xs, ys, backTo, cyclic,
 use Rattle.meaning.specs.Faults.{Begun, at-layer, at-count, at-x, at-y, after, previousOr}
 use Rattle.ring_laws.specs.Beginnings.{Fine, fine-x, fine-y, Good}
 use Rattle.ring_laws.specs.Forms.{previous-size, range-xs, range-ys}
-use Rattle.rings.specs.StateOf.{firstOr, stateOf, keyed}
-use Rattle.rings.proofs.Standing.{mag-below, first-size}
+use Rattle.reading_laws.specs.StateOf.{firstOr, stateOf, keyed}
+use Rattle.reading_laws.specs.Standing.{mag-below, first-size}
 use Rattle.rings.specs.declared.Due.{Due}
 use Rattle.rings.specs.declared.Due.the-variants.{Layer, Count, X, Y}
 use Rattle.rings.specs.declared.State.{State}

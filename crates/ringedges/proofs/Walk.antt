@@ -26,13 +26,13 @@ use Rattle.numbers.specs.Reading.{refuse}
 use Rattle.numbers.specs.declared.Reading.{Reading}
 use Rattle.numbers.specs.declared.Reading.the-variants.{Value, Refused}
 use Rattle.rings.specs.State.{greatest, start, mayEnd, faultOf, nextOf, dueInList, Sane}
-use Rattle.rings.specs.Outcome.{ListOutcome}
-use Rattle.rings.specs.OutcomeLaws.{refuses, refuses-read}
+use Rattle.reading_laws.specs.Outcome.{ListOutcome}
+use Rattle.reading_laws.specs.OutcomeLaws.{refuses, refuses-read}
 use Rattle.rings.specs.declared.Due.{Due}
 use Rattle.rings.specs.declared.Due.the-variants.{X, Y}
 use Rattle.rings.specs.declared.State.{State}
-use Rattle.rings.proofs.Standing.{keyed-most}
-use Rattle.rings.proofs.ListWalk.{ListAt, list-at-start, list-sane, list-fault-free, Passed, passed, list-at-next, list-refused, list-over, list-short}
+use Rattle.reading_laws.specs.Standing.{keyed-most}
+use Rattle.reading_laws.specs.ListWalk.{ListAt, list-at-start, list-sane, list-fault-free, Passed, passed, list-at-next, list-refused, list-over, list-short}
 use Rattle.ringedges.specs.Ended.{edgeAt, endedBy, ended}
 use Rattle.ringedges.proofs.Begun.{edgesBegun, edges-after, ended-most}
 

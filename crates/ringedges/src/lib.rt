@@ -11,7 +11,7 @@ ghost use Rattle.meaning.specs.Rings.{ringEdges};
 ghost use Rattle.meaning.specs.Faults.{Edged};
 ghost use Rattle.answers.specs.Said.{said};
 ghost use Rattle.rings.specs.State.{greatest, Sane};
-ghost use Rattle.rings.specs.Outcome.{ListOutcome};
+ghost use Rattle.reading_laws.specs.Outcome.{ListOutcome};
 ghost use Rattle.ringedges.specs.Ended.{edgeAt, ended};
 
 // Writes an edge at n, as far as there is room, and returns the place after it.

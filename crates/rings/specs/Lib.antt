@@ -1,5 +1,2 @@
--- The functions that judge rings number by number, and their laws.
+-- The functions that judge rings number by number.
 pub mod State
-pub mod StateOf
-pub mod Outcome
-pub mod OutcomeLaws

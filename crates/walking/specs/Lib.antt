@@ -1,4 +1,3 @@
 -- A walk: what run and area answer, from one sweep.
-pub mod Walks
 pub mod Working
 pub mod WalkLaws

@@ -1,9 +1,5 @@
--- One walk, its refusals, and its end. Assumes nothing.
+-- A walk's refusals, and its end. Assumes nothing.
 --
---   one-walked         ONE ANSWER: walks that meet the contract are equal, and so are the buffers
---   told-all, told-lacks   the answer to what was written
---   cells-all, cells-short, cells-none   what a walk tells of area: the cells where records were written, or had too little room; else the refusal of run
---   stopped            a walk that ends with one of the refusals 1 to 9
 --   open-call, text-call   refusal 5; else the text decides
 --   text-stopped       a walk that ends with a refusal of the text
 --   at-start           fresh arrays are at the start of the sweep
@@ -21,19 +17,17 @@ use native.Mathlib.Omega.{arith}
 use lib.IntN.{ℤ}
 use lib.ListN.{length, take, drop, replicate, length-replicate, getD-replicate, length-append, length-drop}
 use lib.Seq.{ext-getD, length-take-le, getD-take}
-use borrow.Author.Tests.{ne-eqb, le-leb, lt-leb}
+use borrow.Author.Tests.{le-leb, lt-leb}
 use Rattle.meaning.specs.Numbers.{limit, pick}
 use Rattle.meaning.specs.Answers.{Answer, answer, accepted, First, not-closed, too-little-room}
 use Rattle.meaning.specs.Edges.{Edge, edgesOf, Closed}
 use Rattle.meaning.specs.Expression.{Judged}
 use Rattle.meaning.specs.Records.{Record}
 use Rattle.meaning.specs.Calls.{Outcome, outcome, callRows, Runs, Areas}
-use Rattle.answers.specs.declared.Answer.{Answer as Given}
-use Rattle.answers.specs.Said.{said, said-same}
+use Rattle.answers.specs.Said.{said}
 use Rattle.basic_laws.specs.Sound.{lifted}
 use Rattle.laws.specs.Accepting.{Passed, refused}
 use Rattle.expression_laws.specs.Cover.{Table}
-use Rattle.call_laws.specs.Judging.{one-run, one-area}
 use Rattle.call_laws.specs.Refusals.{call-stops, call-text}
 use Rattle.edges.specs.declared.Judged.the-variants.{Fine}
 use Rattle.edges.specs.Answering.{listRows}
@@ -45,96 +39,28 @@ use Rattle.axis.specs.Axes.{InOrder}
 use Rattle.crossings.specs.OnlyOne.{swept-fresh}
 use Rattle.sweep_laws.specs.Lines.{linesTo}
 use Rattle.sweep_laws.specs.Steps.{place-start}
-use Rattle.sweep.specs.Filling.{Given as GivenTo, At}
+use Rattle.sweep.specs.Filling.{Given, At}
 use Rattle.strip_laws.specs.Ordered.{EdgesOk, Ordered}
 use Rattle.strip_laws.specs.Ready.{ordered-of}
 use Rattle.strip_laws.specs.Fresh.{closed-ranked}
 use Rattle.engine_laws.specs.Ready.{Ready, ready}
-use Rattle.engine_laws.specs.Joining.{passed-first, run-stopped, area-stopped, sound, empty, levels, run-joined, area-joined}
+use Rattle.engine_laws.specs.Joining.{passed-first, sound, empty, levels, run-joined, area-joined}
 use Rattle.front.specs.Ranking.{RankOk, InRanks, BalancedAs}
 use Rattle.writing.specs.declared.Found.{Found}
 use Rattle.writing.specs.Writing.{written, fitting, Wrote, Even, WriteOk}
-use Rattle.walking.specs.declared.Walked.{Walked}
-use Rattle.walking.specs.Walks.{ended, areaAnswer, answerTo, Walks}
+use Rattle.walked.specs.declared.Walked.{Walked}
+use Rattle.walked.specs.Walks.{ended, answerTo, Walks}
+use Rattle.walked.specs.WalkedLaws.{ended-no, area-ended, stopped}
 use Rattle.walking.specs.Working.{Zeros, Fresh, WorkOk, SweepOk, Sweeps}
-
--- ---- the answer of area
-
-ended-no : (n : ℕ) → (n ≡ 0 → ⊥) → (n ≡ 10 → ⊥) → ended n ≡ false
-unfolding ended
-ended-no n a b = rw (ne-eqb n 0 a, ne-eqb n 10 b)
-
-area-other : (a : Answer) (k : ℕ) → (a .number ≡ 0 → ⊥) → (a .number ≡ 10 → ⊥) → areaAnswer a k ≡ a
-unfolding areaAnswer
-area-other a k h g = rw (ended-no (a .number) h g)
-
-area-ended : (a : Answer) (k : ℕ) → ended (a .number) ≡ true → areaAnswer a k ≡ accepted k
-unfolding areaAnswer
-area-ended a k e = rw e
-
-pub told-all : (f : Found) → f .fits ≡ true → answerTo f ≡ accepted (f .records)
-unfolding answerTo
-told-all f e = rw e
-
-pub told-lacks : (f : Found) → f .fits ≡ false → answerTo f ≡ too-little-room (f .records)
-unfolding answerTo
-told-lacks f e = rw e
-
--- ---- one answer
-
-cells-same : (a : Answer) (j k : ℕ) (b : Bool) → ended (a .number) ≡ b → areaAnswer a j ≡ areaAnswer a k → ((a .number ≡ 0 → ⊥) → (a .number ≡ 10 → ⊥) → (j ≡ 0) × (k ≡ 0)) → j ≡ k
-unfolding ended
-cells-same a j k true e q none = ap (λ (r : Answer). r .value) (sym (area-ended a j e) ∙ q ∙ area-ended a k e)
-cells-same a j k false e q none =
-    let z = none (λ h. true≢false (sym (ap ended h) ∙ e)) (λ h. true≢false (sym (ap ended h) ∙ e)) in
-    z .0 ∙ sym (z .1)
-
-walked-same : (v w : Walked) → v .answer ≡ w .answer → v .cells ≡ w .cells → v ≡ w
-walked-same v w a k = ap₂ (λ (x : Given) (n : ℕ). record { answer = x; cells = n }) a k
-
-pub one-walked : (ns : List ℤ) (text : List ℕ) (out out₁ out₂ : List ℤ) (v w : Walked) → Walks ns text out out₁ v → Walks ns text out out₂ w → (v ≡ w) × (out₁ ≡ out₂)
-one-walked ns text out out₁ out₂ v w A B =
-    let o : outcome (said (v .answer)) out₁ ≡ outcome (said (w .answer)) out₂ = one-run ns text out _ _ (A .run) (B .run) in
-    let s : said (v .answer) ≡ said (w .answer) = ap (λ (x : Outcome). x .answer) o in
-    let a : v .answer ≡ w .answer = said-same (v .answer) (w .answer) s in
-    let q : areaAnswer (said (v .answer)) (v .cells) ≡ areaAnswer (said (v .answer)) (w .cells) = one-area ns text _ _ (A .area) (B .area) ∙ ap (λ (x : Answer). areaAnswer x (w .cells)) (sym s) in
-    let n : v .answer .number ≡ w .answer .number = ap (λ (x : Given). x .number) a in
-    let k : v .cells ≡ w .cells = cells-same (said (v .answer)) (v .cells) (w .cells) (ended (v .answer .number)) refl q (λ h g. (A .none h g, B .none (λ z. h (n ∙ z)) (λ z. g (n ∙ z)))) in
-    (walked-same v w a k, ap (λ (x : Outcome). x .buffer) o)
-
--- ---- what a walk tells of area
-
-module _ (ns : List ℤ) (text : List ℕ) (out : List ℤ) {out′ : List ℤ} {w : Walked} (W : Walks ns text out out′ w) where
-  cells-told : ended (w .answer .number) ≡ true → Areas ns text (accepted (w .cells))
-  cells-told e = subst (Areas ns text) (area-ended (said (w .answer)) (w .cells) e) (W .area)
-
-  pub cells-all : w .answer .number ≡ 0 → Areas ns text (accepted (w .cells))
-  unfolding ended
-  cells-all e = cells-told (ap ended e)
-
-  pub cells-short : w .answer .number ≡ 10 → Areas ns text (accepted (w .cells))
-  unfolding ended
-  cells-short e = cells-told (ap ended e)
-
-  pub cells-none : (w .answer .number ≡ 0 → ⊥) → (w .answer .number ≡ 10 → ⊥) → Areas ns text (said (w .answer))
-  cells-none h g = subst (Areas ns text) (area-other (said (w .answer)) (w .cells) h g) (W .area)
 
 -- ---- refusals
 
-module _ (ns : List ℤ) (text : List ℕ) where
-  pub stopped : (out : List ℤ) (w : Walked) (a : Answer) → said (w .answer) ≡ a → w .cells ≡ 0 → First (callRows ns text) Passed a → (a .number ≡ 0 → ⊥) → (a .number ≡ 10 → ⊥) → Walks ns text out out w
-  stopped out w a e k x h g = record {
-    run = subst (λ (b : Answer). Runs ns text out (outcome b out)) (sym e) (run-stopped ns text a x out h);
-    area = subst (Areas ns text) (sym (ap₂ areaAnswer e k ∙ area-other a 0 h g)) (area-stopped ns text a x h);
-    none = λ _ _. k;
-  }
+module _ (ns : List ℤ) (text : List ℕ) (J : First (listRows 7 limit ns) Passed (accepted 0)) where
+  pub open-call : (Closed (edgesOf ns) → ⊥) → First (callRows ns text) Passed not-closed
+  open-call h = call-stops ns text not-closed (open-answer limit ns Fine J refl h) (refused not-closed 0 (λ z. omega arith))
 
-  module _ (J : First (listRows 7 limit ns) Passed (accepted 0)) where
-    pub open-call : (Closed (edgesOf ns) → ⊥) → First (callRows ns text) Passed not-closed
-    open-call h = call-stops ns text not-closed (open-answer limit ns Fine J refl h) (refused not-closed 0 (λ z. omega arith))
-
-    pub text-call : Closed (edgesOf ns) → (v : Verdict) → Judged text (verdictOf v) → First (callRows ns text) Passed (verdictOf v)
-    text-call h v t = call-text ns text (verdictOf v) (fine-answer limit ns Fine J refl h) t
+  pub text-call : Closed (edgesOf ns) → (v : Verdict) → Judged text (verdictOf v) → First (callRows ns text) Passed (verdictOf v)
+  text-call h v t = call-text ns text (verdictOf v) (fine-answer limit ns Fine J refl h) t
 
 zero-value : (v : Verdict) → answer (verdictOf v .number) 0 ≡ verdictOf v
 zero-value Accepted = refl
@@ -254,7 +180,7 @@ module _ {ns : List ℤ} {text layers ys xs ends values : List ℕ} {n nx : ℕ}
     can : Ready n base ws layers ends values nx
     can = ready O E (R .steps .layers-are) (K .long-ends) n (K .rows-few) (R .within)
 
-    given : GivenTo base ws layers ends truth vx n
+    given : Given base ws layers ends truth vx n
     given = record {
       words = can .words;
       ascending = can .ascending;

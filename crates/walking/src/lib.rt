@@ -1,44 +1,9 @@
 // A walk over an edge list to which refusals 1 to 4 do not apply: the records into the lent buffer, and the inside cells. Every working array is lent.
-use answers::Answer;
 use front::Ranked;
+use walked::Walked;
 use writing::Found;
-ghost use mathlib.Core.Path.{_≡_};
-ghost use Rattle.meaning.specs.Answers.{answer};
-ghost use Rattle.answers.specs.Said.{said};
-ghost use Rattle.walking.specs.Walks.{answerTo, Walks};
+ghost use Rattle.walked.specs.Walks.{Walks};
 ghost use Rattle.walking.specs.Working.{SweepOk, Sweeps, WorkOk};
-
-// What a run answers, and the inside cells: 0 where one of the refusals 1 to 9 applies.
-pub struct Walked {
-    pub answer: Answer,
-    pub cells: u64,
-}
-
-// A walk that ends with one of the refusals 1 to 9.
-pub fn refusal(number: u64, value: u64) -> Walked
-    ensures { λ r. ⌜ (said (r .answer) ≡ answer number value) × (r .cells ≡ 0) ⌝ }
-{
-    let answer = answers::refused(number, value);
-    Walked { answer, cells: 0 }
-}
-
-// A walk whose records were written, or had too little room.
-fn tell(found: Found) -> Walked
-    ensures { λ r. ⌜ (said (r .answer) ≡ answerTo found) × (r .cells ≡ found .cells) ⌝ }
-{
-    if found.fits {
-        let answer = answers::accepted(found.records);
-        return Walked {
-            answer,
-            cells: found.cells,
-        };
-    }
-    let answer = answers::refused(10, found.records);
-    Walked {
-        answer,
-        cells: found.cells,
-    }
-}
 
 // The sweep over edges with ranked x: in order of y, and written. What the working arrays hold at the end is of no use.
 fn sweep(
@@ -103,12 +68,12 @@ pub fn work(
 {
     let ranked = front::rank(edges, layers, ys, xs, ends, vx, ws, room, n, c);
     let Ranked::Balanced(nx) = ranked else {
-        return refusal(5, 0);
+        return walked::refusal(5, 0);
     };
     let verdict = expression::judge(text);
     let number = expression::number(verdict);
     if number != 0 {
-        return refusal(number, 0);
+        return walked::refusal(number, 0);
     }
     let truth = expression::table(text);
     let m = layers.len();
@@ -128,5 +93,5 @@ pub fn work(
         told,
         marks,
     );
-    tell(found)
+    walked::tell(found)
 }

@@ -25,7 +25,8 @@ use Rattle.sweep_laws.specs.Steps.{lines-none}
 use Rattle.sweep.specs.declared.Filled.{Filled}
 use Rattle.sweep.specs.Filling.{Given, At, FillOk, Fills}
 use Rattle.sweep.specs.Going.{going-long}
-use Rattle.writing.specs.Writing.{MeasureOk, Measures, PartOk, Parted, AgainOk, written}
+use Rattle.parts.specs.Parted.{PartOk, Parted}
+use Rattle.writing.specs.Writing.{MeasureOk, Measures, AgainOk, written}
 use Rattle.writing.specs.Parts.{LevelOk, all-second, words-low, ranks-few, lines-ok, lines-prefix, lines-bound, Writes, writes-start, part-ready, writes-more, writes-done}
 
 pub part-is : (rs : List (Record ℕ)) (loc₀ loc : List ℕ) (k : ℕ) → loc ≡ map wordOf rs ++ drop (length rs) loc₀ → k ≡ length rs → take k loc ≡ map wordOf rs

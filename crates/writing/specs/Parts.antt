@@ -5,10 +5,8 @@
 --   words-back, words-low, words-heights   what their words hold
 --   lines-prefix       the lines of the first words come first
 --   lines-bound        there are at most 2^25 horizontals
---   emitted-is, emitted-front, emitted-past   records written where there is room: what comes to stand there, and the rest as it was
 --   Writes vx h done out₀ cs₀ out cs   the horizontals `done` of h are written, and their ends
 --   writes-start, part-ready, writes-more, writes-done   part by part
---   place-ready, parted   one part: `put_part`
 use mathlib.Core.Path.{_≡_, refl, sym, ap, ap₂, _∙_, subst}
 use mathlib.Core.Bool.{Bool, true, false}
 use mathlib.Core.List.{List, [], _∷_, _++_, map, append-assoc}
@@ -17,8 +15,8 @@ use native.Mathlib.Omega.{arith}
 use native.Mathlib.Nat.{mul-le-mul}
 use lib.Dec.{eqb}
 use lib.IntN.{ℤ}
-use lib.ListN.{length, getD, take, drop, length-append, length-map, length-drop}
-use lib.Seq.{take-at, drop-at, drop-drop, take-take, length-take-le, take-length}
+use lib.ListN.{length, getD, take, drop, length-append, length-map, take-append-drop}
+use lib.Seq.{take-at, drop-at, drop-drop, take-take, take-length}
 use Rattle.meaning.specs.Numbers.{pick}
 use Rattle.meaning.specs.Cells.{Dir, off, fwd, bwd}
 use Rattle.meaning.specs.Records.{Record, rec, Run, run, numbersOf}
@@ -26,17 +24,19 @@ use Rattle.basic_laws.specs.Lists.{All, all-append, map-append}
 use Rattle.words.specs.Words.{valueOf}
 use Rattle.grid_laws.specs.Plane.{recordAt, lineOver, eachOf, kindAt}
 use Rattle.records.specs.Put.{numbers, emitted}
-use Rattle.records.specs.Emitting.{length-numbers, numbers-append, emitted-from}
+use Rattle.records.specs.Emitting.{numbers-append}
 use Rattle.horizontal.specs.Words.{upFrom, onLevel, Ranks, packed, heightOf, fromOf, toOf, levelOf, wordOf, level-packed}
 use Rattle.vertical_laws.specs.Tips.{verticalsN}
 use Rattle.vertical_laws.specs.Ranked.{onUpright}
 use Rattle.vertical_laws.specs.Table.{table-low}
-use Rattle.verticals.specs.Words.{uprightNumbers, Low, Ready, state, placedAll, PlaceOk}
+use Rattle.verticals.specs.Words.{uprightNumbers, Low, Ready, state, placedAll}
 use Rattle.verticals.specs.Placed.{placed-append, placed-done}
 use Rattle.sweep_laws.specs.Lines.{places, placesAfter, linesTo}
 use Rattle.sweep_laws.specs.Steps.{lines-few}
 use Rattle.sweep.specs.Filling.{Given}
-use Rattle.writing.specs.Writing.{levelled, PartOk, Parted, written}
+use Rattle.parts.specs.Parted.{levelled, PartOk, Parted}
+use Rattle.parts.specs.Emitted.{emitted-front}
+use Rattle.writing.specs.Writing.{written}
 
 -- ---- what the records of lines are
 
@@ -136,11 +136,6 @@ unfolding eachOf
 each-append h [] qs = refl
 each-append h (p ∷ ps) qs = ap (_++_ (h p)) (each-append h ps qs) ∙ sym (append-assoc (h p) (eachOf h ps) (eachOf h qs))
 
-split : {A : Type 0} (e : ℕ) (xs : List A) → xs ≡ take e xs ++ drop e xs
-split zero xs = refl
-split (suc e) [] = refl
-split (suc e) (x ∷ xs) = ap (_∷_ x) (split e xs)
-
 module _ {base : ℕ} {ws layers ends : List ℕ} {truth : List Bool} {vx : List ℕ} {n : ℕ} (G : Given base ws layers ends truth vx n) where
   abbrev to : ℕ → List (Record ℕ)
   to e = linesTo base ws layers ends truth (length vx) e
@@ -156,7 +151,7 @@ module _ {base : ℕ} {ws layers ends : List ℕ} {truth : List Bool} {vx : List
   unfolding linesTo kindAt
   lines-prefix e =
       let vs : map (valueOf base) (take (length ws) ws) ≡ map (valueOf base) (take e ws) ++ map (valueOf base) (drop e ws) =
-      ap (map (valueOf base)) (take-length ws ∙ split e ws) ∙ map-append (valueOf base) (take e ws) (drop e ws) in
+      ap (map (valueOf base)) (take-length ws ∙ sym (take-append-drop e ws)) ∙ map-append (valueOf base) (take e ws) (drop e ws) in
       let B = places-begin (map (valueOf base) (take e ws)) (map (valueOf base) (drop e ws)) in
       record { rest = _; is = ap (eachOf _) (ap places vs ∙ B .is) ∙ each-append _ (places (map (valueOf base) (take e ws))) (B .rest) }
 
@@ -166,40 +161,6 @@ module _ {base : ℕ} {ws layers ends : List ℕ} {truth : List Bool} {vx : List
       let l : e ≤ 4096 = omega (arith, G .words .few) in
       let m : e * length vx ≤ 4096 * 8192 = mul-le-mul l ranks-few in
       omega arith
-
--- ---- records written into the buffer
-
-module _ (out : List ℤ) (n : ℕ) (rs : List (Record ℕ)) (room : 4 * (n + length rs) ≤ length out) where
-  abbrev p : List ℤ
-  p = take (4 * n) out
-
-  long-p : length p ≡ 4 * n
-  long-p = length-take-le (4 * n) out (omega arith)
-
-  pub emitted-is : emitted out n rs ≡ (take (4 * n) out ++ numbers rs) ++ drop (4 * (n + length rs)) out
-  emitted-is =
-      let e : 4 * n + length rs * 4 ≡ 4 * (n + length rs) = omega arith in
-      ap (λ o. emitted o n rs) (split (4 * n) out)
-      ∙ emitted-from p (drop (4 * n) out) n rs (omega (arith, long-p)) (omega (arith, length-drop (4 * n) out))
-      ∙ ap (λ o. p ++ (numbers rs ++ o)) (drop-drop (length rs * 4) (4 * n) out ∙ ap (λ m. drop m out) e)
-      ∙ sym (append-assoc p (numbers rs) (drop (4 * (n + length rs)) out))
-
-  long-front : length (p ++ numbers rs) ≡ 4 * (n + length rs)
-  long-front = length-append p (numbers rs) ∙ omega (arith, long-p, length-numbers rs)
-
-  pub emitted-front : take (4 * (n + length rs)) (emitted out n rs) ≡ take (4 * n) out ++ numbers rs
-  emitted-front = ap (take (4 * (n + length rs))) emitted-is ∙ take-at (p ++ numbers rs) (drop (4 * (n + length rs)) out) (4 * (n + length rs)) long-front
-
-  pub emitted-past : (h : ℕ) → n + length rs ≤ h → drop (4 * h) (emitted out n rs) ≡ drop (4 * h) out
-  emitted-past h l =
-      let k : ℕ = 4 * (n + length rs) in
-      let j : ℕ = 4 * h - 4 * (n + length rs) in
-      let e : 4 * (n + length rs) + (4 * h - 4 * (n + length rs)) ≡ 4 * h = omega arith in
-      ap (λ m. drop m (emitted out n rs)) (sym e)
-      ∙ sym (drop-drop j k (emitted out n rs))
-      ∙ ap (drop j) (ap (drop k) emitted-is ∙ drop-at (p ++ numbers rs) (drop (4 * (n + length rs)) out) k long-front)
-      ∙ drop-drop j k out
-      ∙ ap (λ m. drop m out) e
 
 -- ---- part by part
 
@@ -300,33 +261,10 @@ writes-done vx few hs ok out₀ cs₀ ready out cs W =
     placed-done (map wordOf hs) vx cs₀ (drop (4 * length hs) out₀) ready (drop (4 * length hs) out) cs (W .back)
     ∙ ap₂ (λ rs k. uprightNumbers vx rs ++ drop k (drop (4 * length hs) out₀)) (words-back (length vx) 2147483648 few hs ok) (ap (_*_ 4) (length-map hs wordOf))
     ∙ ap (_++_ (uprightNumbers vx hs)) (drop-drop (4 * length hs) (4 * length hs) out₀ ∙ ap (λ m. drop m out₀) (eight (length hs))) in
-    split (4 * length hs) out
+    sym (take-append-drop (4 * length hs) out)
     ∙ ap₂ _++_ (W .front) back
     ∙ sym (append-assoc (numbers (map (onLevel vx) hs)) (numbers (map (onUpright vx) (verticalsN (length vx) hs))) (drop (8 * length hs) out₀))
     ∙ ap (λ ns. ns ++ drop (8 * length hs) out₀) (sym (numbers-append (map (onLevel vx) hs) (map (onUpright vx) (verticalsN (length vx) hs))))
   where
     eight : (k : ℕ) → 4 * k + 4 * k ≡ 8 * k
     eight k = omega arith
-
--- ---- one part
-
-module _ {ws : List ℕ} {n h : ℕ} {vx cs : List ℕ} {out : List ℤ} (ok : PartOk ws n h vx cs out) where
-  long-levels : length (map (onLevel vx) (map levelOf ws)) ≡ length ws
-  long-levels = length-map (map levelOf ws) (onLevel vx) ∙ length-map ws levelOf
-
-  pub levels-past : drop (4 * h) (levelled vx ws n out) ≡ drop (4 * h) out
-  unfolding levelled
-  levels-past = emitted-past out n (map (onLevel vx) (map levelOf ws)) (omega (arith, long-levels, ok .within, ok .room)) h (omega (arith, long-levels, ok .within))
-
-  pub place-ready : {mid : List ℤ} → mid ≡ levelled vx ws n out → PlaceOk ws vx cs (drop (4 * h) mid)
-  place-ready {mid} e = subst (PlaceOk ws vx cs) (sym (ap (drop (4 * h)) e ∙ levels-past)) (ok .place)
-
-  pub parted : {mid out′ : List ℤ} {cs′ : List ℕ} {back : List ℤ} → mid ≡ levelled vx ws n out → out′ ≡ take (4 * h) mid ++ back → length back ≡ length (drop (4 * h) mid) → state back cs′ ≡ placedAll vx ws (state (drop (4 * h) mid) cs)
-      → length mid ≡ length out → Parted ws n h vx cs cs′ out out′
-  parted {mid} {out′} {cs′} {back} e o l s q =
-      let long : length (take (4 * h) mid) ≡ 4 * h = length-take-le (4 * h) mid (omega (arith, q, ok .room)) in
-      record {
-        front = ap (take (4 * h)) o ∙ take-at (take (4 * h) mid) back (4 * h) long ∙ ap (take (4 * h)) e;
-        back = ap (λ b. state b cs′) (ap (drop (4 * h)) o ∙ drop-at (take (4 * h) mid) back (4 * h) long) ∙ s ∙ ap (λ b. placedAll vx ws (state b cs)) (ap (drop (4 * h)) e ∙ levels-past);
-        long = ap length o ∙ length-append (take (4 * h) mid) back ∙ omega (arith, long, l, length-drop (4 * h) mid, q, ok .room);
-      }

@@ -25,7 +25,8 @@ use Rattle.sweep_laws.specs.Lines.{linesTo}
 use Rattle.sweep_laws.specs.Steps.{place-start}
 use Rattle.writing.specs.declared.Found.{Found}
 use Rattle.writing.specs.declared.Measured.{Measured}
-use Rattle.writing.specs.Writing.{written, fitting, Wrote, Even, WriteOk, MeasureOk, Measures, PartOk, Parted, AgainOk}
+use Rattle.parts.specs.Parted.{PartOk, Parted}
+use Rattle.writing.specs.Writing.{written, fitting, Wrote, Even, WriteOk, MeasureOk, Measures, AgainOk}
 use Rattle.writing.specs.Parts.{LevelOk, words-back, words-heights, ranks-few, lines-ok, lines-bound, Writes, writes-start, part-ready, writes-more, writes-done}
 
 pub measure-ready : {base : ℕ} {ws layers ends : List ℕ} {truth : List Bool} {vx loc cs c m told d : List ℕ} → WriteOk base ws layers ends truth vx loc cs c m told d → MeasureOk base ws layers ends truth vx loc cs c m told d

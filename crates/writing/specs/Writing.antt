@@ -6,27 +6,25 @@
 --   Even n ws layers ends       after all edges the rows are as before the first: the list is closed
 --   WriteOk                     what the writing is asked: a sweep at its start, counters at zero, and the horizontals of some set of cells
 --   MeasureOk, Measures         before and after the horizontals are counted
---   levelled vx ws n out        the horizontals of a part, as records from number n on
---   LevelsOk, PartOk, Parted    before and after one part is written
 --   AgainOk                     what writing all parts is asked
 use mathlib.Core.Path.{_≡_}
 use mathlib.Core.Bool.{Bool}
 use mathlib.Core.List.{List, _++_, map}
-use Prim.Native.Nat.{ℕ, _+_, _*_, _<_, _≤_}
+use Prim.Native.Nat.{ℕ, _*_, _<_, _≤_}
 use lib.Dec.{leb}
 use lib.IntN.{ℤ}
 use lib.ListN.{length, getD, take, drop}
 use Rattle.meaning.specs.Numbers.{pick}
 use Rattle.meaning.specs.Records.{Record}
 use Rattle.bucket_laws.specs.Buckets.{Counted}
-use Rattle.records.specs.Put.{numbers, emitted}
+use Rattle.records.specs.Put.{numbers}
 use Rattle.crossings.specs.Swept.{Swept, edgesTo}
-use Rattle.horizontal.specs.Words.{onLevel, heightOf, levelOf, wordOf}
+use Rattle.horizontal.specs.Words.{onLevel, wordOf}
 use Rattle.weights.specs.Weights.{Weighed}
 use Rattle.vertical_laws.specs.Tips.{verticalsN}
 use Rattle.vertical_laws.specs.Ranked.{onUpright}
 use Rattle.vertical_laws.specs.Whole.{Horizontals}
-use Rattle.verticals.specs.Words.{digitsIn, Low, Ready, state, placedAll, PlaceOk}
+use Rattle.verticals.specs.Words.{digitsIn, Ready}
 use Rattle.sweep_laws.specs.Lines.{linesTo}
 use Rattle.sweep.specs.Filling.{Given, At}
 use Rattle.writing.specs.declared.Found.{Found}
@@ -75,29 +73,6 @@ pub record Measures (base : ℕ) (ws layers ends : List ℕ) (truth : List Bool)
   pub last : r .last ≤ length loc
   -- where the last part is all, it is all there is
   pub kept : r .last ≡ r .all → take (r .last) loc ≡ map wordOf (linesTo base ws layers ends truth (length vx) (length ws))
-
--- ---- one part
-
-unfoldable pub levelled : List ℕ → List ℕ → ℕ → List ℤ → List ℤ
-levelled vx ws n out = emitted out n (map (onLevel vx) (map levelOf ws))
-
-pub record LevelsOk (ws vx : List ℕ) (n : ℕ) : Type 0 where
-  pub low : Low (length vx) ws
-  pub columns : (i : ℕ) → i < length vx → getD vx i 0 ≤ 2147483648
-  pub heights : (i : ℕ) → i < length ws → heightOf (getD ws i 0) ≤ 2147483648
-  pub few : n + length ws ≤ 33554432
-
-pub record PartOk (ws : List ℕ) (n h : ℕ) (vx cs : List ℕ) (out : List ℤ) : Type 0 where
-  pub levels : LevelsOk ws vx n
-  pub within : n + length ws ≤ h
-  pub few : h ≤ 33554432
-  pub room : 8 * h ≤ length out
-  pub place : PlaceOk ws vx cs (drop (4 * h) out)
-
-pub record Parted (ws : List ℕ) (n h : ℕ) (vx cs cs′ : List ℕ) (out out′ : List ℤ) : Type 0 where
-  pub front : take (4 * h) out′ ≡ take (4 * h) (levelled vx ws n out)
-  pub back : state (drop (4 * h) out′) cs′ ≡ placedAll vx ws (state (drop (4 * h) out) cs)
-  pub long : length out′ ≡ length out
 
 pub record AgainOk (base : ℕ) (ws layers ends : List ℕ) (truth : List Bool) (vx : List ℕ) (h : ℕ) (out : List ℤ) (loc cs c m told d : List ℕ) : Type 0 where
   pub given : Given base ws layers ends truth vx (length m)

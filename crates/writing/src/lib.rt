@@ -3,7 +3,7 @@ ghost use mathlib.Core.Path.{_≡_};
 ghost use Prim.Native.Nat.{_+_, _*_, _≤_};
 ghost use lib.ListN.{length};
 ghost use Rattle.sweep_laws.specs.Lines.{linesTo};
-ghost use Rattle.writing.specs.Writing.{MeasureOk, Measures, LevelsOk, levelled, PartOk, Parted, AgainOk, written, WriteOk, Wrote};
+ghost use Rattle.writing.specs.Writing.{MeasureOk, Measures, AgainOk, written, WriteOk, Wrote};
 
 // How many records there are, whether the buffer has room for them, and the inside cells.
 pub struct Found {
@@ -66,32 +66,6 @@ fn measure(
     Measured { all, last, sum }
 }
 
-// The horizontals of a part, as records from number n on.
-fn put_levels(ws: &[u64], vx: &[u32], n: usize, out: &mut [i32])
-    requires { ⌜ LevelsOk (now ws) (now vx) n ⌝ }
-    ensures { λ _. ⌜ now (out .exit) ≡ levelled (now (vx .entry)) (now (ws .entry)) n (now (out .entry)) ⌝ }
-{
-    let mut i = 0;
-    while i < ws.len() {
-        let w = ws[i];
-        let y = horizontal::height(w);
-        let f = horizontal::rank_from(w);
-        let t = horizontal::rank_to(w);
-        records::put(out, n + i, 0, y, vx[f], vx[t]);
-        i += 1;
-    }
-}
-
-// A part of h horizontals: their records from number n on, and their ends into the verticals, which are lent the buffer from just after the horizontals.
-fn put_part(ws: &[u64], n: usize, h: usize, vx: &[u32], cs: &mut [u32], out: &mut [i32])
-    requires { ⌜ PartOk (now ws) n h (now vx) (now cs) (now out) ⌝ }
-    ensures { λ _. ⌜ Parted (now (ws .entry)) n h (now (vx .entry)) (now (cs .entry)) (now (cs .exit)) (now (out .entry)) (now (out .exit)) ⌝ }
-{
-    put_levels(ws, vx, n, out);
-    let start = 4 * h;
-    verticals::place(ws, vx, cs, &mut out[start..]);
-}
-
 // Where the horizontals were too many for the working array: the sweep once more, each part written as it is found.
 fn again(
     h: usize,
@@ -131,7 +105,7 @@ fn again(
             marks,
         );
         let count = f.count;
-        put_part(&loc[0..count], n, h, vx, cs, out);
+        parts::put(&loc[0..count], n, h, vx, cs, out);
         n += count;
         g = f.next;
     }
@@ -189,7 +163,7 @@ pub fn write(
     }
     verticals::starts(cs);
     if m.last == h {
-        put_part(&loc[0..h], 0, h, vx, cs, out);
+        parts::put(&loc[0..h], 0, h, vx, cs, out);
         return counted(h, true, m.sum);
     }
     again(

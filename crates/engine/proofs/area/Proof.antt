@@ -1,5 +1,5 @@
 -- `engine::area` meets its contract. Assumes nothing.
-use Rattle.walking.specs.WalkLaws.{cells-all, cells-short, cells-none}
+use Rattle.walked.specs.WalkedLaws.{cells-all, cells-short, cells-none}
 use borrow.Author.Needs.{needs}
 use Rattle.engine.proofs.area.Statement.{statement}
 use Rattle.engine.proofs.area.Tie as tie

@@ -1,9 +1,6 @@
 -- `engine::walk` meets its contract. Assumes nothing.
-use mathlib.Core.Path.{refl}
 use native.Mathlib.Omega.{arith}
-use Rattle.meaning.specs.Numbers.{limit}
-use Rattle.edges.specs.Refusals.{fine-list}
-use Rattle.edges.specs.declared.Judged.the-variants.{Fine, NotFours, TooManyEdges, OutOfRange, FromEqualsTo}
+use Rattle.edges.specs.declared.Judged.the-variants.{NotFours, TooManyEdges, OutOfRange, FromEqualsTo}
 use Rattle.engine.proofs.Stops.{edges-stopped, fine-judged}
 use borrow.Author.Needs.{needs}
 use Rattle.engine.proofs.walk.Statement.{statement}
@@ -15,11 +12,10 @@ judge-requires c κs = search needs
 enum-told : tie.Need-enum-told
 enum-told c = search needs
 
-few-requires : tie.Need-few-requires
-few-requires c κs =
-    let d = c .before .before in
-    let j = d .before .before in
-    (fine-judged (j .before .before .args .edges .now) (j .judge .result) (j .judge .ensures) (d .enum-told .given .1), omega (arith, c .before .if1 .taken))
+walk-requires : tie.Need-walk-requires
+walk-requires c κs =
+    let j = c .before .before .before in
+    fine-judged (j .before .before .args .edges .now) (j .judge .result) (j .judge .ensures) (c .before .enum-told .given .1)
 
 same-length : tie.Need-same-length
 same-length c = search needs
@@ -27,27 +23,14 @@ same-length c = search needs
 returns : tie.Need-returns
 returns c = search needs
 
-many-requires : tie.Need-many-requires
-many-requires c κs =
-    let d = c .before .before in
-    let j = d .before .before in
-    let J = fine-judged (j .before .before .args .edges .now) (j .judge .result) (j .judge .ensures) (d .enum-told .given .1) in
-    (J, fine-list limit (j .before .before .args .edges .now) Fine J refl .few)
-
-same-length-2 : tie.Need-same-length-2
-same-length-2 c = search needs
-
-returns-2 : tie.Need-returns-2
-returns-2 c = search needs
-
 enum-told-2 : tie.Need-enum-told-2
 enum-told-2 c = search needs
 
 refusal-requires : tie.Need-refusal-requires
 refusal-requires c κs = search needs
 
-returns-3 : tie.Need-returns-3
-returns-3 c =
+returns-2 : tie.Need-returns-2
+returns-2 c =
     let j = c .before .before .before in
     let s = j .before .before in
     edges-stopped (s .args .edges .now) (s .args .text .now) (s .args .records .now) (j .judge .result) (j .judge .ensures) NotFours (c .before .enum-told2 .given .1) (c .refusal .result) (c .refusal .ensures .0) (c .refusal .ensures .1) (λ z. omega arith) (λ z. omega arith)
@@ -58,8 +41,8 @@ enum-told-3 c = search needs
 refusal-requires-2 : tie.Need-refusal-requires-2
 refusal-requires-2 c κs = search needs
 
-returns-4 : tie.Need-returns-4
-returns-4 c =
+returns-3 : tie.Need-returns-3
+returns-3 c =
     let j = c .before .before .before in
     let s = j .before .before in
     edges-stopped (s .args .edges .now) (s .args .text .now) (s .args .records .now) (j .judge .result) (j .judge .ensures) TooManyEdges (c .before .enum-told3 .given .1) (c .refusal2 .result) (c .refusal2 .ensures .0) (c .refusal2 .ensures .1) (λ z. omega arith) (λ z. omega arith)
@@ -70,8 +53,8 @@ enum-known-judged c = search needs
 refusal-requires-3 : tie.Need-refusal-requires-3
 refusal-requires-3 c κs = search needs
 
-returns-5 : tie.Need-returns-5
-returns-5 c =
+returns-4 : tie.Need-returns-4
+returns-4 c =
     let j = c .before .before .before .before in
     let s = j .before .before in
     edges-stopped (s .args .edges .now) (s .args .text .now) (s .args .records .now) (j .judge .result) (j .judge .ensures) (OutOfRange _) (c .before .before .judged .given .1) (c .refusal3 .result) (c .refusal3 .ensures .0) (c .refusal3 .ensures .1) (λ z. omega arith) (λ z. omega arith)
@@ -82,8 +65,8 @@ enum-known-judged-2 c = search needs
 refusal-requires-4 : tie.Need-refusal-requires-4
 refusal-requires-4 c κs = search needs
 
-returns-6 : tie.Need-returns-6
-returns-6 c =
+returns-5 : tie.Need-returns-5
+returns-5 c =
     let j = c .before .before .before .before in
     let s = j .before .before in
     edges-stopped (s .args .edges .now) (s .args .text .now) (s .args .records .now) (j .judge .result) (j .judge .ensures) (FromEqualsTo _) (c .before .before .judged2 .given .1) (c .refusal4 .result) (c .refusal4 .ensures .0) (c .refusal4 .ensures .1) (λ z. omega arith) (λ z. omega arith)
@@ -94,21 +77,18 @@ walk-spec =
     (tie.spec
     judge-requires
     enum-told
-    few-requires
+    walk-requires
     same-length
     returns
-    many-requires
-    same-length-2
-    returns-2
     enum-told-2
     refusal-requires
-    returns-3
+    returns-2
     enum-told-3
     refusal-requires-2
-    returns-4
+    returns-3
     enum-known-judged
     refusal-requires-3
-    returns-5
+    returns-4
     enum-known-judged-2
     refusal-requires-4
-    returns-6)
+    returns-5)

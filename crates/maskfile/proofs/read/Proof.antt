@@ -1,7 +1,7 @@
 -- `maskfile::read` meets its contract. Assumes nothing.
 use borrow.Author.Needs.{needs}
 use Rattle.ring_laws.specs.Calls.{read-long}
-use Rattle.rings.specs.OutcomeLaws.{file-table, settled-refused, made-refused, made-done}
+use Rattle.reading_laws.specs.OutcomeLaws.{file-table, settled-refused, made-refused, made-done}
 use Rattle.maskfile.proofs.read.Statement.{statement}
 use Rattle.maskfile.proofs.read.Tie as tie
 

@@ -2,7 +2,7 @@
 use borrow.Author.Needs.{needs}
 use Rattle.meaning.specs.MaskFile.{five, bytesOf}
 use Rattle.meaning.specs.Faults.{Written}
-use Rattle.rings.specs.OutcomeLaws.{list-table, settled-refused, made-refused, made-done}
+use Rattle.reading_laws.specs.OutcomeLaws.{list-table, settled-refused, made-refused, made-done}
 use Rattle.maskwriter.proofs.write.Statement.{statement}
 use Rattle.maskwriter.proofs.write.Tie as tie
 

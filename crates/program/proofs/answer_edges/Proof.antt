@@ -4,7 +4,7 @@ use Prim.Native.Nat.{_≤_}
 use native.Mathlib.Omega.{arith}
 use native.Mathlib.Nat.{sub-zero}
 use lib.ListN.{length-take}
-use Rattle.walking.specs.WalkLaws.{cells-all}
+use Rattle.walked.specs.WalkedLaws.{cells-all}
 use Rattle.program.specs.Edges.{edges-refused, edges-most, edges-shown}
 use borrow.Author.Needs.{needs}
 use Rattle.program.proofs.answer_edges.Statement.{statement}

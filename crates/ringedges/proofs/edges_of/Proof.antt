@@ -2,7 +2,7 @@
 use borrow.Author.Needs.{needs}
 use Rattle.meaning.specs.Rings.{ringEdges}
 use Rattle.meaning.specs.Faults.{Edged}
-use Rattle.rings.specs.OutcomeLaws.{list-table, settled-refused, made-refused, made-done}
+use Rattle.reading_laws.specs.OutcomeLaws.{list-table, settled-refused, made-refused, made-done}
 use Rattle.ringedges.proofs.edges_of.Statement.{statement}
 use Rattle.ringedges.proofs.edges_of.Tie as tie
 

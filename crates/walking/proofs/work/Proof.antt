@@ -4,7 +4,8 @@ use native.Mathlib.Omega.{arith}
 use lib.ListN.{length}
 use Rattle.meaning.specs.Answers.{not-closed}
 use Rattle.front.specs.RankLaws.{balanced-says, unbalanced-says}
-use Rattle.walking.specs.WalkLaws.{stopped, open-call, text-call, text-stopped, rank-ready, still-fresh, call-ready, sweep-ready, sweep-told, part-back, counters-back}
+use Rattle.walked.specs.WalkedLaws.{stopped}
+use Rattle.walking.specs.WalkLaws.{open-call, text-call, text-stopped, rank-ready, still-fresh, call-ready, sweep-ready, sweep-told, part-back, counters-back}
 use borrow.Author.Needs.{needs}
 use Rattle.walking.proofs.work.Statement.{statement}
 use Rattle.walking.proofs.work.Tie as tie

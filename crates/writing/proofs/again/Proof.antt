@@ -22,19 +22,19 @@ loop-holds c = rewriting-start (c .before .before .before .before .before .befor
 fill-requires : tie.Need-fill-requires Inv-loop μ-loop
 fill-requires c κs = let S = c .before .before .before .before .before .before .loop .inv in fill-ready (S .given) (S .at) (S .room) (S .rows)
 
-sub-put-part : tie.Need-sub-put-part Inv-loop μ-loop
-sub-put-part c = search needs
+sub-put : tie.Need-sub-put Inv-loop μ-loop
+sub-put c = search needs
 
-part-put-part-start : tie.Need-part-put-part-start Inv-loop μ-loop
-part-put-part-start c = search needs
+part-put-start : tie.Need-part-put-start Inv-loop μ-loop
+part-put-start c = search needs
 
-part-put-part-end : tie.Need-part-put-part-end Inv-loop μ-loop
-part-put-part-end c =
+part-put-end : tie.Need-part-put-end Inv-loop μ-loop
+part-put-end c =
     let l = repart-low (c .before .before .before .before .before .before .before .before .before .before .before .before .before .before .before .before .before .before .loop .inv) (c .before .before .before .before .before .before .before .before .before .before .before .fill .ensures) in
     search needs
 
-put-part-requires : tie.Need-put-part-requires Inv-loop μ-loop
-put-part-requires c κs = rw sub-zero (rewriting-part (c .before .before .before .before .before .before .before .before .before .before .before .before .before .before .before .before .before .before .before .before .before .loop .inv) (c .before .before .before .before .before .before .before .before .before .before .before .before .before .before .fill .ensures))
+put-requires : tie.Need-put-requires Inv-loop μ-loop
+put-requires c κs = rw sub-zero (rewriting-part (c .before .before .before .before .before .before .before .before .before .before .before .before .before .before .before .before .before .before .before .before .before .loop .inv) (c .before .before .before .before .before .before .before .before .before .before .before .before .before .before .fill .ensures))
 
 add-n : tie.Need-add-n Inv-loop μ-loop
 add-n c =
@@ -45,7 +45,7 @@ loop-less : tie.Need-loop-less Inv-loop μ-loop
 loop-less c = omega (arith, c .before .before .before .before .before .before .before .before .before .before .before .before .before .before .before .before .before .before .fill .ensures .more (c .before .before .before .before .before .before .before .before .before .before .before .before .before .before .before .before .before .before .before .before .before .before .before .before .loop-test .taken), c .before .before .before .before .before .before .before .before .before .before .before .before .before .before .before .before .before .before .before .before .before .before .before .before .loop-test .taken)
 
 loop-again : tie.Need-loop-again Inv-loop μ-loop
-loop-again c = rewriting-more (c .before .before .before .before .before .before .before .before .before .before .before .before .before .before .before .before .before .before .before .before .before .before .before .before .before .loop .inv) (c .before .before .before .before .before .before .before .before .before .before .before .before .before .before .before .before .before .before .fill .ensures) (rw sub-zero at (c .before .before .before .put-part .ensures)) (omega (arith, c .before .before .before .before .before .before .before .before .before .before .before .before .before .before .before .before .before .before .fill .kept .1 .1 .1 .1 .1 .1 .1 .1 .1 .1 .0, c .before .before .before .before .before .before .before .before .before .before .before .before .before .before .before .before .before .before .before .before .before .before .before .before .before .loop .inv .rows)) (omega (arith, c .before .before .before .put-part .kept .1 .1 .1 .1 .0))
+loop-again c = rewriting-more (c .before .before .before .before .before .before .before .before .before .before .before .before .before .before .before .before .before .before .before .before .before .before .before .before .before .loop .inv) (c .before .before .before .before .before .before .before .before .before .before .before .before .before .before .before .before .before .before .fill .ensures) (rw sub-zero at (c .before .before .before .put .ensures)) (omega (arith, c .before .before .before .before .before .before .before .before .before .before .before .before .before .before .before .before .before .before .fill .kept .1 .1 .1 .1 .1 .1 .1 .1 .1 .1 .0, c .before .before .before .before .before .before .before .before .before .before .before .before .before .before .before .before .before .before .before .before .before .before .before .before .before .loop .inv .rows)) (omega (arith, c .before .before .before .put .kept .1 .1 .1 .1 .0))
 
 same-length : tie.Need-same-length Inv-loop μ-loop
 same-length c = search needs
@@ -79,10 +79,10 @@ again-spec =
     μ-loop
     loop-holds
     fill-requires
-    sub-put-part
-    part-put-part-start
-    part-put-part-end
-    put-part-requires
+    sub-put
+    part-put-start
+    part-put-end
+    put-requires
     add-n
     loop-less
     loop-again

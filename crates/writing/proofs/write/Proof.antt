@@ -41,17 +41,17 @@ returns c =
 starts-requires : tie.Need-starts-requires
 starts-requires c κs = starts-ready (c .before .before .before .before .before .before .before .before .before .before .before .before .before .before .before .before .before .before .before .before .before .before .before .before .before .before .before .before .before .before .before .before .pre) (c .before .before .before .before .before .before .before .before .before .before .before .before .before .before .measure .ensures)
 
-sub-put-part : tie.Need-sub-put-part
-sub-put-part c = search needs
+sub-put : tie.Need-sub-put
+sub-put c = search needs
 
-part-put-part-start : tie.Need-part-put-part-start
-part-put-part-start c = search needs
+part-put-start : tie.Need-part-put-start
+part-put-start c = search needs
 
-part-put-part-end : tie.Need-part-put-part-end
-part-put-part-end c = search needs
+part-put-end : tie.Need-part-put-end
+part-put-end c = search needs
 
-put-part-requires : tie.Need-put-part-requires
-put-part-requires c κs =
+put-requires : tie.Need-put-requires
+put-requires c κs =
     rw sub-zero (single-ready (c .before .before .before .before .before .before .before .before .before .before .before .before .before .before .before .before .before .before .before .before .before .before .before .before .before .before .before .before .before .before .before .before .before .before .before .before .before .before .before .before .before .pre) (c .before .before .before .before .before .before .before .before .before .before .before .before .before .before .before .before .before .before .before .before .before .before .before .measure .ensures) _ (omega (arith, c .before .before .before .before .before .before .before .before .before .before .if1 .left)) (c .before .before .before .before .before .before .before .before .starts .ensures) (c .before .before .before .before .if2 .taken))
 
 counted-requires-2 : tie.Need-counted-requires-2
@@ -82,7 +82,7 @@ returns-2 : tie.Need-returns-2
 returns-2 c =
     let a = c .counted2 .ensures in
     wrote-fits (c .before .before .before .before .before .before .before .before .before .before .before .before .before .before .before .before .before .before .before .before .before .before .before .before .before .before .before .before .before .before .before .before .before .before .before .before .before .before .before .before .before .before .before .before .before .before .pre) (c .before .before .before .before .before .before .before .before .before .before .before .before .before .before .before .before .before .before .before .before .before .before .before .before .before .before .before .before .measure .ensures) _ _ (omega (arith, c .before .before .before .before .before .before .before .before .before .before .before .before .before .before .before .if1 .left))
-    (single-done (c .before .before .before .before .before .before .before .before .before .before .before .before .before .before .before .before .before .before .before .before .before .before .before .before .before .before .before .before .before .before .before .before .before .before .before .before .before .before .before .before .before .before .before .before .before .before .pre) (c .before .before .before .before .before .before .before .before .before .before .before .before .before .before .before .before .before .before .before .before .before .before .before .before .before .before .before .before .measure .ensures) _ (omega (arith, c .before .before .before .before .before .before .before .before .before .before .before .before .before .before .before .if1 .left)) (c .before .before .before .before .before .before .before .before .before .before .before .before .before .starts .ensures) (c .before .before .before .before .before .before .before .before .before .if2 .taken) (rw sub-zero at (c .before .before .before .before .put-part .ensures))) (a .0) (a .1) (a .2)
+    (single-done (c .before .before .before .before .before .before .before .before .before .before .before .before .before .before .before .before .before .before .before .before .before .before .before .before .before .before .before .before .before .before .before .before .before .before .before .before .before .before .before .before .before .before .before .before .before .before .pre) (c .before .before .before .before .before .before .before .before .before .before .before .before .before .before .before .before .before .before .before .before .before .before .before .before .before .before .before .before .measure .ensures) _ (omega (arith, c .before .before .before .before .before .before .before .before .before .before .before .before .before .before .before .if1 .left)) (c .before .before .before .before .before .before .before .before .before .before .before .before .before .starts .ensures) (c .before .before .before .before .before .before .before .before .before .if2 .taken) (rw sub-zero at (c .before .before .before .before .put .ensures))) (a .0) (a .1) (a .2)
 
 again-requires : tie.Need-again-requires
 again-requires c κs =
@@ -133,10 +133,10 @@ write-spec =
     same-length-6
     returns
     starts-requires
-    sub-put-part
-    part-put-part-start
-    part-put-part-end
-    put-part-requires
+    sub-put
+    part-put-start
+    part-put-end
+    put-requires
     counted-requires-2
     same-length-7
     same-length-8

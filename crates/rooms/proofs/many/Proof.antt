@@ -1,9 +1,9 @@
--- `engine::few` meets its contract. Assumes nothing.
+-- `rooms::many` meets its contract. Assumes nothing.
 use native.Mathlib.Omega.{arith}
-use Rattle.engine.proofs.Stops.{work-ready}
+use Rattle.rooms.proofs.Made.{work-ready}
 use borrow.Author.Needs.{needs}
-use Rattle.engine.proofs.few.Statement.{statement}
-use Rattle.engine.proofs.few.Tie as tie
+use Rattle.rooms.proofs.many.Statement.{statement}
+use Rattle.rooms.proofs.many.Tie as tie
 
 add-k : tie.Need-add-k
 add-k c = search needs
@@ -95,7 +95,7 @@ slice-aggregate-work-6 c = search needs
 work-requires : tie.Need-work-requires
 work-requires c κs =
     let s = c .before .before .before .before .before .before .before .before .before .before .before .before .before .before .before in
-    work-ready (s .args .edges .now) 256 512 4096 1024 (s .pre .0) (s .pre .1) (omega arith) (omega arith) (omega arith) (omega arith)
+    work-ready (s .args .edges .now) 4096 8192 65536 16384 (s .pre .0) (s .pre .1) (omega arith) (omega arith) (omega arith) (omega arith)
 
 same-length : tie.Need-same-length
 same-length c = c .before .before .before .before .before .before .before .before .before .before .before .before .before .before .work .kept .1 .1 .0
@@ -103,8 +103,8 @@ same-length c = c .before .before .before .before .before .before .before .befor
 returns : tie.Need-returns
 returns c = search needs
 
-pub few-spec : {M : Type 1} → statement M
-few-spec =
+pub many-spec : {M : Type 1} → statement M
+many-spec =
     tie.close
     (tie.spec
     add-k

@@ -1,9 +1,9 @@
--- `walking::tell` meets its contract. Assumes nothing.
+-- `walked::tell` meets its contract. Assumes nothing.
 use mathlib.Core.Path.{refl, sym, _∙_}
-use Rattle.walking.specs.WalkLaws.{told-all, told-lacks}
+use Rattle.walked.specs.WalkedLaws.{told-all, told-lacks}
 use borrow.Author.Needs.{needs}
-use Rattle.walking.proofs.tell.Statement.{statement}
-use Rattle.walking.proofs.tell.Tie as tie
+use Rattle.walked.proofs.tell.Statement.{statement}
+use Rattle.walked.proofs.tell.Tie as tie
 
 accepted-requires : tie.Need-accepted-requires
 accepted-requires c κs = search needs

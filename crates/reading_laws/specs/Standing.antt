@@ -32,8 +32,8 @@ use Rattle.ring_laws.specs.Neighbours.{previous-from}
 use Rattle.ring_laws.specs.Beginnings.{Fine, FineAt, fine-layer, fine-count, count-few, fine-x, fine-y, layer-fine, count-fine, x-fine, y-fine, Good, pairs-snoc, length-snoc, length-xs, length-ys}
 use Rattle.ring_laws.specs.Forms.{range-xs, range-ys, previous-size}
 use Rattle.numbers.specs.Reading.{numberOf}
 use Rattle.rings.specs.State.{greatest, start, outside, meets, coordinateFault, faultOf, firstOf, nextBy, nextOf, Sane, mayEnd}
-use Rattle.rings.specs.StateOf.{isNone, firstOr, stateOf, keyed}
+use Rattle.reading_laws.specs.StateOf.{isNone, firstOr, stateOf, keyed}
 
 -- ---- range
 

@@ -1,13 +1,13 @@
--- `writing::put_part` meets its contract. Assumes nothing.
+-- `parts::put` meets its contract. Assumes nothing.
 use Prim.Native.Nat.{_*_}
 use native.Mathlib.Omega.{arith}
 use mathlib.Core.Path.{ap}
 use lib.ListN.{length}
-use Rattle.writing.specs.Parts.{place-ready, parted}
-use Rattle.writing.proofs.Lent.{lent-is, put-is}
+use Rattle.parts.proofs.OnePart.{place-ready, parted}
+use Rattle.parts.proofs.Lent.{lent-is, put-is}
 use borrow.Author.Needs.{needs}
-use Rattle.writing.proofs.put_part.Statement.{statement}
-use Rattle.writing.proofs.put_part.Tie as tie
+use Rattle.parts.proofs.put.Statement.{statement}
+use Rattle.parts.proofs.put.Tie as tie
 
 put-levels-requires : tie.Need-put-levels-requires
 put-levels-requires c κs = search needs
@@ -47,8 +47,8 @@ returns c =
     parted (s .pre) (l .ensures) (put-is (l .last .1 .1 .1 .0) (p .last .1 .1 .1 .0) (4 * s .args .h))
     (omega (arith, p .kept .1 .1 .1 .0, ap length (lent-is (l .last .1 .1 .1 .0) (4 * s .args .h)))) (rw (lent-is (l .last .1 .1 .1 .0) (4 * s .args .h)) at (p .ensures)) (omega (arith, l .kept .1 .1 .1 .0))
 
-pub put-part-spec : {M : Type 1} → statement M
-put-part-spec =
+pub put-spec : {M : Type 1} → statement M
+put-spec =
     tie.close
     (tie.spec
     put-levels-requires

@@ -30,11 +30,11 @@ use Rattle.ring_laws.specs.Forms.{list-begins}
 use Rattle.numbers.specs.Reading.{refuse, numberOf}
 use Rattle.numbers.specs.declared.Reading.{Reading}
 use Rattle.numbers.specs.declared.Reading.the-variants.{Value, Refused}
 use Rattle.rings.specs.State.{start, isCoordinate, mayEnd, faultOf, nextOf, judgedAs, dueInList, Sane}
-use Rattle.rings.specs.StateOf.{stateOf, keyed}
+use Rattle.reading_laws.specs.StateOf.{stateOf, keyed}
 use Rattle.rings.specs.declared.State.{State}
-use Rattle.rings.proofs.Judging.{judged-value, judged-refused}
-use Rattle.rings.proofs.Standing.{Natural, verdict, negative, next-state, sane, not-end}
+use Rattle.reading_laws.specs.Judging.{judged-value, judged-refused}
+use Rattle.reading_laws.specs.Standing.{Natural, verdict, negative, next-state, sane, not-end}
 
 pub record ListAt (ns : List ℤ) (b : Begun) (s : State) (i : ℕ) : Type 0 where
   pub state : s ≡ stateOf b

@@ -15,7 +15,7 @@ use Rattle.meaning.specs.Answers.{Answer, accepted, too-little-room}
 use Rattle.meaning.specs.Calls.{outcome, Runs, Areas}
 use Rattle.answers.specs.Said.{said}
 use Rattle.writing.specs.declared.Found.{Found}
-use Rattle.walking.specs.declared.Walked.{Walked}
+use Rattle.walked.specs.declared.Walked.{Walked}
 
 unfoldable pub ended : ℕ → Bool
 ended n = eqb n 0 || eqb n 10

@@ -27,7 +27,7 @@ use Rattle.ring_laws.specs.Calls.{holds, some, file-fault-none, read-fault, rea
 use Rattle.numbers.specs.Reading.{answerOf, refuse, settledOf, Refuses}
 use Rattle.numbers.specs.declared.Reading.{Reading}
 use Rattle.numbers.specs.declared.Reading.the-variants.{Value, Refused}
-use Rattle.rings.specs.Outcome.{Made, Outcome}
+use Rattle.reading_laws.specs.Outcome.{Made, Outcome}
 
 pub refuses : (Fault : Row Answer) (a : Answer) → Fault a → Refuses Fault (refuse a)
 refuses Fault a x = record { number = a .number; value = a .value; is = refl; fault = x }

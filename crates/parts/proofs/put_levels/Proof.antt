@@ -1,12 +1,12 @@
--- `writing::put_levels` meets its contract. Assumes nothing.
+-- `parts::put_levels` meets its contract. Assumes nothing.
 use mathlib.Core.Path.{ap, _∙_, sym}
 use Prim.Native.Nat.{_-_}
 use native.Mathlib.Omega.{arith}
 use lib.ListN.{length}
-use Rattle.writing.proofs.Levelling.{Levelling, levelling-start, from-in, to-in, put-ready, levelling-more, levelling-done, levelled-long}
+use Rattle.parts.proofs.Levelling.{Levelling, levelling-start, from-in, to-in, put-ready, levelling-more, levelling-done, levelled-long}
 use borrow.Author.Needs.{needs}
-use Rattle.writing.proofs.put_levels.Statement.{statement}
-use Rattle.writing.proofs.put_levels.Tie as tie
+use Rattle.parts.proofs.put_levels.Statement.{statement}
+use Rattle.parts.proofs.put_levels.Tie as tie
 
 abbrev Inv-loop : tie.InvT-loop
 Inv-loop ws vx n out₀ i₀ out i = Levelling ws vx n out₀ out i

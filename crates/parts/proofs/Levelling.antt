@@ -11,7 +11,7 @@ use Rattle.meaning.specs.Records.{Record, rec}
 use Rattle.records.specs.Put.{putAt, emitted, RecordOk}
 use Rattle.records.specs.Emitting.{Left, left-all, left-one, left-none, length-emitted}
 use Rattle.horizontal.specs.Words.{onLevel, heightOf, fromOf, toOf, levelOf}
-use Rattle.writing.specs.Writing.{LevelsOk, levelled}
+use Rattle.parts.specs.Parted.{LevelsOk, levelled}
 
 abbrev levelsOf : List ℕ → List ℕ → List (Record ℕ)
 levelsOf vx ws = map (onLevel vx) (map levelOf ws)

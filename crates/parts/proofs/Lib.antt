@@ -1,0 +1,3 @@
+mod Levelling
+mod Lent
+mod OnePart

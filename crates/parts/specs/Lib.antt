@@ -1,0 +1,3 @@
+-- One part of the result.
+pub mod Parted
+pub mod Emitted
