@@ -120,15 +120,15 @@ fn each(
 }
 
 // The marks of one edge.
-fn mark(w: u64, layers: &[u8], ends: &[u16], n: usize, d: &mut [u16]) -> Reach
-    requires { ⌜ MarkOk n w (now layers) (now ends) (now d) ⌝ }
-    ensures { λ r. ⌜ MarkedOne n w (now (layers .entry)) (now (ends .entry)) (now (d .entry)) (now (d .exit)) r ⌝ }
+fn mark(w: u64, layers: &[u8], ends: &[u16], n: usize, marks: &mut [u16]) -> Reach
+    requires { ⌜ MarkOk n w (now layers) (now ends) (now marks) ⌝ }
+    ensures { λ r. ⌜ MarkedOne n w (now (layers .entry)) (now (ends .entry)) (now (marks .entry)) (now (marks .exit)) r ⌝ }
 {
     let k = number(w);
     let l = layer(layers, k);
     let f = end(ends, k + k);
     let t = end(ends, k + k + 1);
-    marks::mark(d, n, l, f, t);
+    marks::mark(marks, n, l, f, t);
     Reach {
         lo: least(t, f),
         hi: most(t, f),
@@ -136,9 +136,16 @@ fn mark(w: u64, layers: &[u8], ends: &[u16], n: usize, d: &mut [u16]) -> Reach
 }
 
 // The marks of all edges of the place of edge g.
-fn mark_all(ws: &[u64], g: usize, layers: &[u8], ends: &[u16], n: usize, d: &mut [u16]) -> Touched
-    requires { ⌜ MarkAllOk n (now ws) (now layers) (now ends) g (now d) ⌝ }
-    ensures { λ r. ⌜ PlaceMarked n (now (ws .entry)) (now (layers .entry)) (now (ends .entry)) g (now (d .exit)) r ⌝ }
+fn mark_all(
+    ws: &[u64],
+    g: usize,
+    layers: &[u8],
+    ends: &[u16],
+    n: usize,
+    marks: &mut [u16],
+) -> Touched
+    requires { ⌜ MarkAllOk n (now ws) (now layers) (now ends) g (now marks) ⌝ }
+    ensures { λ r. ⌜ PlaceMarked n (now (ws .entry)) (now (layers .entry)) (now (ends .entry)) g (now (marks .exit)) r ⌝ }
 {
     let here = height(ws[g]);
     let mut e = g;
@@ -149,7 +156,7 @@ fn mark_all(ws: &[u64], g: usize, layers: &[u8], ends: &[u16], n: usize, d: &mut
         if height(w) != here {
             return Touched { next: e, lo, hi };
         }
-        let m = mark(w, layers, ends, n, d);
+        let m = mark(w, layers, ends, n, marks);
         lo = least(lo, m.lo);
         hi = most(hi, m.hi);
         e += 1;
@@ -166,15 +173,15 @@ fn marked(
     n: usize,
     c: &mut [u16],
     covers: &mut [u8],
-    d: &mut [u16],
+    marks: &mut [u16],
 ) -> Touched
-    requires { ⌜ AdvanceOk n (now ws) (now layers) (now ends) g (now c) (now covers) × FreshMarks n (now d) ⌝ }
-    ensures { λ r. ⌜ Advanced n (now (ws .entry)) (now (layers .entry)) (now (ends .entry)) g (now (c .entry)) (now (c .exit)) (now (covers .entry)) (now (covers .exit)) r × (now (d .exit) ≡ now (d .entry)) ⌝ }
+    requires { ⌜ AdvanceOk n (now ws) (now layers) (now ends) g (now c) (now covers) × FreshMarks n (now marks) ⌝ }
+    ensures { λ r. ⌜ Advanced n (now (ws .entry)) (now (layers .entry)) (now (ends .entry)) g (now (c .entry)) (now (c .exit)) (now (covers .entry)) (now (covers .exit)) r × (now (marks .exit) ≡ now (marks .entry)) ⌝ }
 {
-    let t = mark_all(ws, g, layers, ends, n, d);
+    let t = mark_all(ws, g, layers, ends, n, marks);
     let lo = t.lo;
     let hi = t.hi;
-    marks::sum_all(c, covers, d, n, lo, hi);
+    marks::sum_all(c, covers, marks, n, lo, hi);
     t
 }
 
@@ -189,7 +196,7 @@ fn many(ws: &[u64], g: usize) -> bool
     height(ws[g + MANY - 1]) == height(ws[g])
 }
 
-// The edges of the place of edge g, the faster way. The marks d are fresh, before and after.
+// The edges of the place of edge g, the faster way. The marks are fresh, before and after.
 pub fn advance(
     ws: &[u64],
     g: usize,
@@ -198,13 +205,13 @@ pub fn advance(
     n: usize,
     c: &mut [u16],
     covers: &mut [u8],
-    d: &mut [u16],
+    marks: &mut [u16],
 ) -> Touched
-    requires { ⌜ AdvanceOk n (now ws) (now layers) (now ends) g (now c) (now covers) × FreshMarks n (now d) ⌝ }
-    ensures { λ r. ⌜ Advanced n (now (ws .entry)) (now (layers .entry)) (now (ends .entry)) g (now (c .entry)) (now (c .exit)) (now (covers .entry)) (now (covers .exit)) r × (now (d .exit) ≡ now (d .entry)) ⌝ }
+    requires { ⌜ AdvanceOk n (now ws) (now layers) (now ends) g (now c) (now covers) × FreshMarks n (now marks) ⌝ }
+    ensures { λ r. ⌜ Advanced n (now (ws .entry)) (now (layers .entry)) (now (ends .entry)) g (now (c .entry)) (now (c .exit)) (now (covers .entry)) (now (covers .exit)) r × (now (marks .exit) ≡ now (marks .entry)) ⌝ }
 {
     if many(ws, g) {
-        return marked(ws, g, layers, ends, n, c, covers, d);
+        return marked(ws, g, layers, ends, n, c, covers, marks);
     }
     each(ws, g, layers, ends, n, c, covers)
 }
