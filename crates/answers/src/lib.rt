@@ -1,4 +1,6 @@
 // What every call answers: a number of the table of refusals, and its value.
+#![tactic(auto)]
+
 ghost use Rattle.std.specs.Prelude.{◌≡◌};
 ghost use Rattle.meaning.specs.Answers.{accepted, answer};
 ghost use Rattle.answers.specs.Said.{said};

@@ -4,7 +4,7 @@
 --   changed k west           a count past an edge that goes west, or else east
 --   crossed_by c l west       the counts c past an edge of layer l that goes west, or else east
 --   past s l west            the scanline s past that edge
-use Rattle.std.specs.Prelude.{ℕ, ◌+◌, ◌-◌, List, Bool, true, false, get_or, set, replicate}
+use Rattle.std.specs.Prelude.{ℕ, ◌+◌, ◌-◌, Bool, true, false, get_or, set, replicate}
 use Rattle.scanline.specs.declared.Counts.{Counts}
 use Rattle.scanline.specs.declared.Scanline.{Scanline}
 

@@ -1,4 +1,6 @@
 // The scanline and the counts that it hands on. A count stands raised by ZERO, so that it is never negative.
+#![tactic(auto)]
+
 ghost use Rattle.std.specs.Prelude.{◌≡◌, ◌<◌, get_or};
 ghost use Rattle.scanline.specs.Handed.{crossed_by, fresh_counts, fresh_line, past};
 

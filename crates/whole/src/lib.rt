@@ -1,4 +1,6 @@
 // The only place where signed numbers meet machine signs: tests of i32 numbers, and the way to natural numbers and back.
+#![tactic(auto)]
+
 ghost use Rattle.std.specs.Prelude.{◌≡◌};
 ghost use Rattle.basic_laws.specs.Signed.{key_of, unkey_of};
 ghost use Rattle.meaning.specs.Numbers.{eq_z, limit, in_range};

@@ -8,8 +8,7 @@ use mir.Syntax.{w32, w64}
 use mir.Val.{Fits, SFits, to_z, of_z}
 use mir.Facts.{to_z-of_z}
 use Rattle.basic_laws.specs.Signed.{key_of, key_up, key_fits, widens, widened}
-use Rattle.whole.proofs.key.Statement.{statement}
-use Rattle.whole.proofs.key.Tie as tie
+use Rattle.whole.proofs.key.Goals as goal
 
 wide : (z : ℤ) → SFits w32 z → SFits w64 (pos (key_of z))
 wide z h = record { sfits = omega (arith, key_fits z h.sfits) }
@@ -20,19 +19,16 @@ sum z h = ap (λ (x : ℤ). x +ℤ pos 2147483648) (widened z h) ∙ key_up z h.
 back : (z : ℤ) → SFits w32 z → to_z w64 (of_z w64 (to_z w64 (of_z w64 (to_z w32 (of_z w32 z))) +ℤ pos 2147483648)) ≡ pos (key_of z)
 back z h = ap (λ (x : ℤ). to_z w64 (of_z w64 x)) (sum z h) ∙ to_z-of_z (wide z h)
 
-cast_w : tie.Need-overflow-cast-w
-cast_w c = widens c.args.z c.ranges.z
+pub overflow_cast-w : goal.overflow_cast-w
+overflow_cast-w c = widens c.args.z c.ranges.z
 
-add_result : tie.Need-overflow-add-result
-add_result c = subst (SFits w64) (sym (sum c.args.z c.ranges.z)) (wide c.args.z c.ranges.z)
+pub overflow_add-result : goal.overflow_add-result
+overflow_add-result c = subst (SFits w64) (sym (sum c.args.z c.ranges.z)) (wide c.args.z c.ranges.z)
 
-cast_result : tie.Need-overflow-cast-result
-cast_result c =
+pub overflow_cast-result : goal.overflow_cast-result
+overflow_cast-result c =
     subst (λ (x : ℤ). T (non_neg x) × Fits w32 (nat_abs x)) (sym (back c.args.z c.ranges.z))
     (tt, record { fits = key_fits c.args.z c.ranges.z.sfits })
 
-returns : tie.Need-returns
+pub returns : goal.returns
 returns c = ap nat_abs (back c.args.z c.ranges.z)
-
-pub key_spec : {M : Type 1} → statement M
-key_spec = tie.close (tie.spec cast_w add_result cast_result returns)
