@@ -8,7 +8,7 @@
 --   within, outside      the two halves of a range test against `inRange`
 --   key_of, unkey_of       z + 2^31 and back: orders and equations of 32-bit numbers are those of their keys (le_key, eq_key, key_inj)
 --   sub_pos, sub_neg, sub_same   a difference of naturals, by its sign; equal differences; minus_sub: the two ways to write it
-use Rattle.std.specs.Prelude.{◌≡◌, refl, Bool, true, false, not, ℕ, zero, suc, ◌+◌, ◌-◌, ◌<◌, ◌^◌, ℤ, pos, negsuc, nat_abs, ◌+ℤ◌, ◌-ℤ◌, leb, ltb, eqb}
+use Rattle.std.specs.Prelude.{◌≡◌, refl, Bool, true, false, not, ℕ, zero, suc, ◌+◌, ◌-◌, ◌<◌, ℤ, pos, negsuc, nat_abs, ◌+ℤ◌, ◌-ℤ◌, leb, ltb, eqb}
 use Rattle.std.proofs.Common.{sym, ap, ◌∙◌, subst, true≢false, arith, add-zero, le-ltb, lt-ltb, le-leb, leb-true, ltb-true, ltb-false, eq-eqb, ne_eqb, eqb-true, SFits, of_z, to_z, to_z-of_z}
 use Rattle.std.proofs.lemmas.Bool.{false≢true, lt-leb, not-true, not-false}
 use Rattle.std.proofs.Math.Decide.{dec_lt}

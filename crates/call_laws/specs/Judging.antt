@@ -6,13 +6,13 @@
 --   AcceptedRun ..          what acceptance says of a run
 --   run_accepted   what acceptance of the whole call says
 use Rattle.std.proofs.Math.Path.{◌≡◌, sym, ap}
-use Rattle.std.specs.Prelude.{refl, List, [], ◌∷◌, ◌++◌, map, ℕ, ◌+◌, ◌*◌, ◌≤◌, ◌<◌, ℤ, drop}
+use Rattle.std.specs.Prelude.{refl, List, [], ◌∷◌, ◌++◌, map, ℕ, ◌*◌, ◌≤◌, ◌<◌, ℤ, drop}
 use Rattle.std.proofs.Common.{ap₂, ◌∙◌, inl, inr}
 use native.Mathlib.Omega.{arith}
 use Rattle.std.proofs.Math.Decide.{dec_lt}
 use Rattle.std.proofs.Math.ListN.{length}
 use Rattle.meaning.specs.Numbers.{limit}
-use Rattle.meaning.specs.Answers.{Answer, answer, accepted, Row, First, too_little_room, expression_length, too_deep, not_in_grammar, holds_on_nothing}
+use Rattle.meaning.specs.Answers.{Answer, accepted, Row, First, too_little_room, expression_length, too_deep, not_in_grammar, holds_on_nothing}
 use Rattle.meaning.specs.Edges.{edge_rows}
 use Rattle.meaning.specs.Expression.{Expr, sum, Is, refusals}
 use Rattle.meaning.specs.Records.{numbers_of}

@@ -2,7 +2,7 @@
 --
 --   whole_by_parts    WORK BY PARTS: with the part's kind 0 records put in as an unused letter's layer, the shortened text gives the whole's records
 --   and_plus_or       AND PLUS OR: the areas of `(s)*(t)` and `(s)+(t)` are together those of s and t
-use Rattle.std.specs.Prelude.{◌≡◌, Bool, false, ◌&&◌, ◌||◌, ℕ, ◌+◌, ◌%◌, ◌≤◌, eqb, ℤ}
+use Rattle.std.specs.Prelude.{◌≡◌, Bool, false, ◌&&◌, ◌||◌, ℕ, ◌+◌, ◌≤◌, eqb, ℤ}
 use Rattle.std.proofs.Math.Path.{ap, fun_ext}
 use Rattle.std.proofs.Common.{ap₂, ◌∙◌}
 use mathlib.Core.List.{List, ◌∷◌, ◌++◌}

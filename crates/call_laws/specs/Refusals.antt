@@ -14,7 +14,7 @@ use Rattle.meaning.specs.Edges.{edge_rows}
 use Rattle.meaning.specs.Expression.{Expr, sum, Is, refusals, Judged}
 use Rattle.meaning.specs.Records.{numbers_of}
 use Rattle.meaning.specs.Calls.{records_of, area_of, Outcome, outcome, unchanged, call_rows, Short, Recorded, Runs, Areas}
-use Rattle.basic_laws.specs.Tables.{Silent, silent_append, first_stops, first_passes}
+use Rattle.basic_laws.specs.Tables.{Silent, first_stops, first_passes}
 use Rattle.laws.specs.Accepting.{Passed, edges_silent}
 use Rattle.expression_laws.specs.Meanings.{one_expression}
 use Rattle.call_laws.specs.Judging.{call_silent}

@@ -5,7 +5,7 @@
 --   one_end       a sum that a parenthesis closes ends at one place
 --   hole          a parenthesis that opens in a text of the grammar closes around a sum, and a letter that the text does not use may stand for the whole
 --   fill          a sum in parentheses may stand for a letter
-use Rattle.std.specs.Prelude.{◌≡◌, refl, Bool, ℕ, ◌+◌, ◌-◌, ◌≤◌, ◌<◌, length, drop}
+use Rattle.std.specs.Prelude.{◌≡◌, refl, Bool, ℕ, ◌+◌, ◌≤◌, ◌<◌, length, drop}
 use Rattle.std.proofs.Common.{sym, ◌∙◌}
 use Rattle.std.proofs.Math.Path.{ap, subst}
 use Rattle.std.proofs.Math.Bool.{not}

@@ -1,5 +1,5 @@
 -- Cell by cell: each unit piece stands in exactly one record if one of its side cells is inside and the other is not, in the direction that keeps inside on the right; else in none.
-use Rattle.std.specs.Prelude.{◌≡◌, refl, ◌≢◌, Bool, ◌&&◌, List, ℕ, suc, ◌+◌, ◌-◌, ◌*◌, ◌≤◌, ◌<◌, eqb}
+use Rattle.std.specs.Prelude.{◌≡◌, refl, ◌≢◌, Bool, ◌&&◌, List, ℕ, suc, ◌+◌, ◌*◌, ◌≤◌, ◌<◌, eqb}
 use Rattle.std.proofs.Math.Path.{sym, fun_ext}
 use Rattle.std.proofs.Common.{ap, ap₂, ◌∙◌, arith, mul-zero, eq-eqb, ne_eqb}
 use Rattle.std.proofs.Math.Bool.{true, false}

@@ -1,5 +1,5 @@
 -- The area by a wrapping sum: adding and taking away modulo 2^64, in any order of records, ends at the number of cells.
-use Rattle.std.specs.Prelude.{◌≡◌, Bool, false, ℕ, zero, suc, ◌+◌, ◌-◌, ◌*◌, ◌%◌, ◌^◌, ◌≤◌, ◌<◌}
+use Rattle.std.specs.Prelude.{◌≡◌, Bool, false, ℕ, zero, suc, ◌+◌, ◌*◌, ◌%◌, ◌^◌, ◌≤◌, ◌<◌}
 use Rattle.std.proofs.Common.{sym, ap, ◌∙◌, arith, mul-le-mul}
 use Rattle.std.proofs.Math.Nat.{mod-add-mod}
 use Rattle.meaning.specs.Numbers.{bit}

@@ -1,1 +1,3 @@
+#![tactic(auto)]
+
 // Laws and no program: the plane counted in steps from the least coordinate, in specs/.

@@ -5,7 +5,7 @@
 --   columns                 the same of whole columns
 --   closed_up_to, up_to_closed   CLOSED: a list is closed exactly when each layer has as many to- as from-corners up to each column
 use Rattle.std.specs.Prelude.{◌≡◌, refl, Bool, ◌&&◌, List, [], ◌∷◌, ℕ, ◌+◌, ℤ}
-use Rattle.std.proofs.Common.{◌∙◌, arith}
+use Rattle.std.proofs.Common.{arith}
 use Rattle.std.specs.Int.Signed.{le_z, lt_z}
 use Rattle.meaning.specs.Numbers.{bit}
 use Rattle.meaning.specs.Edges.{Edge, edge, west, east, on, up_to, number, wests, easts, Closed}

@@ -5,12 +5,12 @@
 --   only_one        ONE LIST: in order, in range and with the same pieces, so the same list
 --   result_in_range the result is in range
 --   one_result      THE RESULT IS THE ONE: a list in order, in range, that lists a piece exactly when its side cells differ
-use Rattle.std.specs.Prelude.{◌≡◌, ◌≢◌, ◌⊎◌, Bool, not, ◌||◌, ℕ, zero, suc, ◌+◌, ◌*◌, ◌/◌, ◌%◌, ◌≤◌, ◌<◌, ℤ}
+use Rattle.std.specs.Prelude.{◌≡◌, ◌≢◌, Bool, not, ◌||◌, ℕ, zero, suc, ◌+◌, ◌*◌, ◌/◌, ◌%◌, ◌≤◌, ◌<◌, ℤ}
 use Rattle.std.proofs.Math.Path.{refl, ap₂}
 use Rattle.std.proofs.Common.{sym, ap, ◌∙◌, subst, true≢false, arith, div-add-mod', mod-lt, mul-le-mul_right, zero-add}
 use Rattle.std.proofs.Math.Bool.{true, false, ◌&&◌}
 use Rattle.std.proofs.lemmas.Bool.{false≢true}
-use mathlib.Core.List.{List, [], ◌∷◌, ◌++◌, map}
+use mathlib.Core.List.{List, [], ◌∷◌, map}
 use Rattle.std.proofs.Math.Decide.{dec_lt, ℕ_discrete}
 use Rattle.std.proofs.Math.Dec.{eqb, ltb}
 use Rattle.std.specs.Int.Signed.{lt_z}

@@ -2,12 +2,12 @@
 --
 --   result_in_order   IN ORDER: result L g is InOrder, for every set of cells g
 --   append_order      lists in order, one before the other
-use Rattle.std.specs.Prelude.{◌≡◌, refl, ◌≢◌, ◌⊎◌, Bool, true, false, not, ◌&&◌, ◌||◌, List, [], ◌∷◌, ◌++◌, map, eqb, ltb, ℤ}
-use Rattle.std.proofs.Common.{sym, ap, ap₂, ◌∙◌, inl, inr, arith, lt-ltb, le-ltb, eq-eqb}
-use Prim.Native.Nat.{ℕ, zero, suc, ◌+◌, ◌*◌, ◌≤◌, ◌<◌}
+use Rattle.std.specs.Prelude.{◌≡◌, refl, ◌≢◌, Bool, true, false, List, [], ◌∷◌, ◌++◌, map, ltb, ℤ}
+use Rattle.std.proofs.Common.{sym, ap, ◌∙◌, arith, lt-ltb, le-ltb, eq-eqb}
+use Prim.Native.Nat.{ℕ, zero, suc, ◌*◌, ◌≤◌, ◌<◌}
 use Rattle.std.proofs.Math.Decide.{dec_lt}
 use Rattle.std.specs.Int.Signed.{lt_z}
-use Rattle.meaning.specs.Numbers.{pick, eq_z, step}
+use Rattle.meaning.specs.Numbers.{eq_z, step}
 use Rattle.meaning.specs.Cells.{Dir, off, fwd, bwd, level, upright}
 use Rattle.meaning.specs.Records.{Run, run, line, Record, rec, record_of, each, kind_of, result, lesser, greater, forward, same, apart, before, Ahead, InOrder}
 use Rattle.basic_laws.specs.Tests.{or_true}

@@ -5,7 +5,7 @@
 --   result_view         THE VIEW: result L g is result_n (2 * L) (view L g), lowered
 --   cells_view          and its cells are counted alike
 --   within_bounded      a set of cells within the range is bounded in steps
-use Rattle.std.specs.Prelude.{◌≡◌, refl, Bool, true, ℕ, zero, suc, ◌+◌, ◌-◌, ◌*◌, ◌≤◌, ℤ, pos, neg_ℤ}
+use Rattle.std.specs.Prelude.{◌≡◌, refl, Bool, true, ℕ, zero, suc, ◌-◌, ◌*◌, ◌≤◌, ℤ, pos, neg_ℤ}
 use Rattle.std.proofs.Math.Path.{sym, ap, ap₂, fun_ext}
 use Rattle.std.proofs.Common.{◌∙◌, arith, lt-ltb, le-leb}
 use mathlib.Core.List.{List, [], ◌∷◌, ◌++◌, map}

@@ -2,9 +2,9 @@
 use Rattle.std.specs.Prelude.{◌≡◌, refl, Bool, true, false, List, [], ◌∷◌, ◌++◌, eqb, ℤ, pos, negsuc}
 use Rattle.std.proofs.Common.{lit≤}
 use Rattle.meaning.specs.Numbers.{pick, eq_z}
-use Rattle.meaning.specs.Edges.{Edge, edge, edges_of, west, east, on, up_to, number, wests, easts, count, covers}
+use Rattle.meaning.specs.Edges.{edge, edges_of, west, east, on, up_to, number, wests, easts, count, covers}
 use Rattle.meaning.specs.Cells.{Dir, off, fwd, bwd, inside, level, upright}
-use Rattle.meaning.specs.Records.{Run, run, line, Record, rec, put_in, before, passes}
+use Rattle.meaning.specs.Records.{Run, run, line, rec, put_in, before, passes}
 use Rattle.meaning.specs.Area.{signed_sum}
 use Rattle.meaning.specs.Expression.{bytes, and, and_not, or, exclusive_or, joins, letter, negated, joined, sum, Is, a_letter, not_before, one_factor, times, minus, one_product, plus}
 
