@@ -1,4 +1,6 @@
 // A horizontal record by ranks, as one word: its y in steps, and the ranks of its from and its to among the distinct x.
+#![tactic(auto)]
+
 ghost use Rattle.std.specs.Prelude.{◌≡◌, ◌≤◌, ◌<◌};
 ghost use Rattle.horizontal.specs.Words.{height_of, from_of, to_of, packed};
 

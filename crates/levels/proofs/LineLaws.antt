@@ -12,7 +12,7 @@ use Rattle.meaning.specs.Cells.{Dir, turn, off, fwd, bwd}
 use Rattle.meaning.specs.Records.{Record, run, same_dir}
 use Rattle.basic_laws.specs.Lists.{map_append}
 use Rattle.basic_laws.specs.Stores.{sets_append}
-use Rattle.grid_laws.specs.Plane.{record_at, line_over}
+use Rattle.grid_laws.specs.Plane.{record_at}
 use Rattle.grid_laws.specs.Compression.{turn_same}
 use Rattle.grid_laws.specs.Places.{Rising}
 use Rattle.grid_laws.specs.Scan.{emit, pending, pend_start}
@@ -21,10 +21,9 @@ use Rattle.strips.specs.Cover.{look}
 use Rattle.horizontal.specs.Words.{up_from, on_level, packed, word_of}
 use Rattle.horizontal.specs.Lines.{line_records}
 use Rattle.stretches.specs.declared.Stretch.{Stretch}
-use Rattle.stretches.specs.Stretches.{StripsIn, RowsIn, Told, NextIs}
+use Rattle.stretches.specs.Stretches.{RowsIn, Told, NextIs}
 use Rattle.weights.specs.Weights.{Weighed, WeightOk}
 use Rattle.weights.specs.WeightLaws.{weigh_none, weigh_more}
-use Rattle.levels.specs.declared.Reading.{Reading}
 use Rattle.levels.specs.Line.{line_of, LineOk, LineRead}
 use Rattle.levels.proofs.Pending.{keep_to, rest_off, whole_stretch}
 

@@ -1,4 +1,6 @@
 // The horizontals of one line, read from the strips whose covers have changed since the last one.
+#![tactic(auto)]
+
 ghost use Rattle.std.specs.Prelude.{◌≡◌, not, ◌≤◌, ◌<◌};
 ghost use Rattle.meaning.specs.Cells.{turn};
 ghost use Rattle.meaning.specs.Records.{run};

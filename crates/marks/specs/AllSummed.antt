@@ -3,7 +3,7 @@
 --   all_ready   marked edges can be summed up
 --   all_count   each strip then has the west edges that span it more, and the east ones less
 --   all_fresh   and the marks are fresh
-use Rattle.std.specs.Prelude.{◌≡◌, List, ℕ, ◌+◌, ◌*◌, ◌-◌, ◌<◌, ◌≤◌, eqb, length}
+use Rattle.std.specs.Prelude.{◌≡◌, List, ℕ, ◌+◌, ◌*◌, ◌<◌, ◌≤◌, eqb, length}
 use Rattle.std.proofs.Common.{◌∙◌, arith, le-ltb, ne_eqb}
 use Rattle.std.proofs.Math.Decide.{dec_lt}
 use Rattle.meaning.specs.Edges.{Edge, number}

@@ -1,7 +1,7 @@
 -- Marked edges can be summed up. Assumes nothing.
 --
 --   sum_ready   where a layer's counts are not far from zero, `sum_up` has room
-use Rattle.std.specs.Prelude.{◌≡◌, List, ℕ, suc, ◌+◌, ◌*◌, ◌-◌, ◌<◌, ◌≤◌, length}
+use Rattle.std.specs.Prelude.{◌≡◌, List, ℕ, suc, ◌+◌, ◌*◌, ◌<◌, ◌≤◌, length}
 use Rattle.std.proofs.Common.{arith}
 use Rattle.meaning.specs.Edges.{Edge, number}
 use Rattle.strips.specs.Rows.{row_at}

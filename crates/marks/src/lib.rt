@@ -1,4 +1,6 @@
 // Many edges at one place: their ends are marked, and the marks summed up along the strips. A mark stands raised by Scanline::ZERO.
+#![tactic(auto)]
+
 ghost use Rattle.std.specs.Prelude.{◌≡◌, ◌+◌, ◌*◌, ◌-◌, ◌<◌, ◌≤◌, length, get_or, eqb};
 ghost use Rattle.marks.specs.Marks.{SumOk, Summed, LayerOk, AllOk, SummedAll, unlike_of, unlike_to, marked_by};
 

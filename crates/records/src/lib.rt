@@ -1,4 +1,6 @@
 // Records in a lent buffer: four numbers each.
+#![tactic(auto)]
+
 ghost use Rattle.std.specs.Prelude.{◌≡◌, ◌≤◌};
 ghost use Rattle.meaning.specs.Numbers.{limit, step};
 ghost use Rattle.meaning.specs.Records.{rec};

@@ -2,11 +2,10 @@
 --
 --   told_one   two lists told alike are equal
 --   next_one   two answers of `next` are equal, and so is what they leave
-use Rattle.std.specs.Prelude.{◌≡◌, refl, Bool, false, not, List, ℕ, ◌<◌, ◌≤◌, length, get_or}
+use Rattle.std.specs.Prelude.{◌≡◌, Bool, not, List, ℕ, ◌<◌, get_or}
 use Rattle.std.proofs.Common.{sym, ap, ap₂, ◌∙◌, arith, ext_get_or}
 use Rattle.std.proofs.Math.Decide.{dec_lt}
 use Rattle.basic_laws.specs.Tests.{not_self}
-use Rattle.strips.specs.Cover.{look}
 use Rattle.stretches.specs.declared.Stretch.{Stretch}
 use Rattle.stretches.specs.Stretches.{Told, NextIs}
 

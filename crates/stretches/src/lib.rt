@@ -1,4 +1,6 @@
 // From the covers at the last line and those now, to the stretches of one line: as far as neighbouring strips change alike.
+#![tactic(auto)]
+
 ghost use Rattle.std.specs.Prelude.{◌≡◌, true, false, not, ◌+◌, ◌≤◌, length, get_or};
 ghost use Rattle.stretches.specs.Stretches.{StripsIn, RowsIn, Alike, Skipped, Filled, NextIs};
 

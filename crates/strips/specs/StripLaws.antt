@@ -4,13 +4,10 @@
 --   digit-in, digit-out   the same of covers
 --   one_changed           the strips that it spans take over the eight counts with one of them changed by one
 --   none_changed          the other strips keep their eight counts
-use Rattle.std.specs.Prelude.{◌≡◌, refl, Bool, true, false, List, ℕ, zero, suc, ◌+◌, ◌*◌, ◌-◌, ◌<◌, ◌≤◌, ltb, pos, ◌-ℤ◌, length, get_or, set}
+use Rattle.std.specs.Prelude.{◌≡◌, refl, Bool, true, false, List, ℕ, zero, suc, ◌+◌, ◌*◌, ◌<◌, ◌≤◌, ltb, get_or, set}
 use Rattle.std.proofs.Common.{sym, ap, ◌∙◌, arith, mul-le-mul_right, length-set, ext_get_or, get_or-set_same, get_or-set_other}
 use Rattle.std.proofs.Math.Decide.{dec_lt, ℕ_discrete}
-use Rattle.meaning.specs.Numbers.{bit}
-use Rattle.meaning.specs.Edges.{covers}
 use Rattle.strips.specs.Rows.{row_at}
-use Rattle.strips.specs.Cover.{turned_to, Passed}
 use Rattle.scanline.specs.declared.Counts.{Counts}
 use Rattle.scanline.specs.Handed.{changed, crossed_by}
 use Rattle.strips.specs.Strips.{taken_over, Taken, lower, upper, Crossed, counts_at}

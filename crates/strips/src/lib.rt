@@ -1,5 +1,7 @@
 // The rows of the strips. A strip lies between two neighbouring distinct x, and has a rank. Of each layer there is a count for each strip, raised by
 // Scanline::ZERO; a layer has n of them, and the layers stand one after the other. Beside them each strip has a cover: a digit for each layer.
+#![tactic(auto)]
+
 ghost use Rattle.std.specs.Prelude.{◌≡◌, ◌*◌, ◌<◌, ◌≤◌, pos, ◌-ℤ◌, length};
 ghost use Rattle.meaning.specs.Numbers.{bit};
 ghost use Rattle.meaning.specs.Edges.{covers};

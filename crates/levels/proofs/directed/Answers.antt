@@ -1,0 +1,14 @@
+-- `levels::directed` meets its contract. Assumes nothing.
+use mathlib.Core.Path.{◌∙◌}
+use Rattle.levels.proofs.LineLaws.{word_west, word_east}
+use Rattle.levels.proofs.directed.Goals as goal
+
+pub returns-then-inside : goal.returns-then-inside
+returns-then-inside c =
+    let a = c.args in
+    c.word.ensures ∙ word_west a.y a.from a.to a.inside c.if-inside.true
+
+pub returns : goal.returns
+returns c =
+    let a = c.args in
+    c.word-2.ensures ∙ word_east a.y a.from a.to a.inside c.if-inside.false
