@@ -4,7 +4,7 @@
 --   swept_more    the rows after one edge more
 --   edges_more    the first e + 1 edges
 --   edges_few     no test counts more than e of the first e
-use Rattle.std.specs.Prelude.{◌≡◌, refl, ◌≢◌, Bool, true, false, List, map, ℕ, ◌+◌, ◌-◌, ◌<◌, ◌≤◌, ltb, pos, ◌-ℤ◌, length, get_or, take}
+use Rattle.std.specs.Prelude.{◌≡◌, refl, ◌≢◌, Bool, true, false, List, map, ℕ, ◌+◌, ◌<◌, ◌≤◌, ltb, pos, ◌-ℤ◌, length, get_or, take}
 use Rattle.std.proofs.Common.{sym, ap, ap₂, ◌∙◌, arith, length-take-le, eq-eqb, ne_eqb, lt-ltb, le-ltb}
 use Rattle.std.proofs.Math.Decide.{dec_lt, ℕ_discrete}
 use Rattle.meaning.specs.Numbers.{bit, pick}

@@ -1,5 +1,7 @@
 // The sweep by edges: the edges of one place, in the order of y, across the rows of the strips.
 // A word stands for an edge: 8,192 times its y and its number k. Its layer stands at k in `layers`, the ranks of its from and to at k + k and k + k + 1 in `ends`.
+#![tactic(auto)]
+
 ghost use Rattle.std.specs.Prelude.{◌≡◌, ◌/◌, ◌%◌, ◌<◌, length, get_or};
 ghost use Rattle.marks.specs.Marks.{FreshMarks};
 ghost use Rattle.crossings.specs.Swept.{least_of, most_of, PassOk, Passing, AdvanceOk, Advanced, MarkOk, MarkedOne, MarkAllOk, PlaceMarked, many_at};

@@ -1,4 +1,6 @@
 // The sweep: in the order of y the edges of each place across the strips that they span, and then the line read.
+#![tactic(auto)]
+
 ghost use Rattle.std.specs.Prelude.{◌≡◌};
 ghost use Rattle.sweep.specs.Filling.{FillOk, Fills};
 

@@ -1,8 +1,8 @@
 -- Small cases, by computing. Coordinates are in steps.
-use Rattle.std.specs.Prelude.{◌≡◌, refl, List, [], ◌∷◌, ℕ, eqb, pos, negsuc}
+use Rattle.std.specs.Prelude.{◌≡◌, refl, [], ◌∷◌, pos, negsuc}
 use Rattle.meaning.specs.Numbers.{step, eq_z}
-use Rattle.meaning.specs.Records.{Record, rec, each}
-use Rattle.vertical_laws.specs.Tips.{Tip, tip, tips_of, only, pairs, by_x, verticals_n, by_column, verticals}
+use Rattle.meaning.specs.Records.{rec, each}
+use Rattle.vertical_laws.specs.Tips.{tips_of, only, pairs, by_x, verticals_n, by_column, verticals}
 
 -- one cell
 one : verticals_n 2 (rec 0 0 1 0 ∷ rec 0 1 0 1 ∷ []) ≡ rec 1 0 0 1 ∷ rec 1 1 1 0 ∷ []
