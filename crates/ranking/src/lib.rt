@@ -1,4 +1,6 @@
 // Ranks from sorted words, in one walk without a branch.
+#![tactic(auto)]
+
 ghost use Rattle.std.specs.Prelude.{◌≡◌, ◌⊎◌, ◌≤◌, ◌<◌, length};
 ghost use Rattle.ranking.specs.Ranked.{Rankable, Ranked};
 

@@ -1,5 +1,5 @@
 -- One record's weight. Assumes nothing.
-use Rattle.std.proofs.Common.{◌≡◌, ℕ, ◌+◌, ◌-◌, ◌*◌, ◌%◌, ◌^◌, ◌<◌, ◌≤◌, Bool, true, false, not, [], ◌∷◌, mul-le-mul, arith}
+use Rattle.std.proofs.Common.{◌≡◌, ℕ, ◌+◌, ◌-◌, ◌*◌, ◌%◌, ◌^◌, ◌≤◌, Bool, true, false, not, [], ◌∷◌, mul-le-mul, arith}
 use Rattle.meaning.specs.Cells.{turn}
 use Rattle.meaning.specs.Records.{run}
 use Rattle.grid_laws.specs.Plane.{record_at}

@@ -1,4 +1,6 @@
 // What one horizontal record adds to the area: y times (to - from).
+#![tactic(auto)]
+
 ghost use Rattle.std.specs.Prelude.{◌≡◌, ◌-◌, ◌*◌, not, [], ◌∷◌};
 ghost use Rattle.meaning.specs.Cells.{turn};
 ghost use Rattle.meaning.specs.Records.{run};
