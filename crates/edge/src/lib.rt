@@ -1,4 +1,6 @@
 // One record of an edge list: its tests, and its numbers as natural numbers. A signed number is read in one place, and is a natural number from there on.
+#![tactic(auto)]
+
 ghost use Rattle.std.specs.Prelude.{◌≡◌, true, ◌&&◌, ◌+◌, ◌*◌, ◌<◌, leb, nat_abs, length};
 ghost use Rattle.meaning.specs.Numbers.{limit};
 ghost use Rattle.meaning.specs.Edges.{sound_edge, flat};

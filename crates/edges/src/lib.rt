@@ -1,4 +1,6 @@
 // Judging the records of an edge list: refusals 1 to 4, in the order of the table. Whether the list is closed is not asked here.
+#![tactic(auto)]
+
 ghost use Rattle.meaning.specs.Numbers.{limit};
 ghost use Rattle.meaning.specs.Answers.{First};
 ghost use Rattle.laws.specs.Accepting.{Passed};

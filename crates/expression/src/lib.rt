@@ -1,4 +1,6 @@
 // The expression: the judging call, and the table of its values at all covers.
+#![tactic(auto)]
+
 ghost use Rattle.std.specs.Prelude.{◌≡◌, true, false, ◌+◌, ◌^◌, ◌≤◌, ◌<◌, eqb};
 ghost use Rattle.meaning.specs.Numbers.{bit};
 ghost use Rattle.meaning.specs.Expression.{often, Deep, Judged};

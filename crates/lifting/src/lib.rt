@@ -1,4 +1,6 @@
 // An edge list in steps, in one pass: the layers, the y, and the ends of the edges, with coordinates moved up by 2^30.
+#![tactic(auto)]
+
 ghost use Rattle.std.specs.Prelude.{◌≡◌, map, ◌+◌, ◌/◌, ◌<◌, length};
 ghost use Rattle.meaning.specs.Numbers.{limit};
 ghost use Rattle.meaning.specs.Edges.{edges_of};

@@ -1,4 +1,6 @@
 // The readers of an expression: a sum is made of products, a product of factors, and a factor may hold a sum in parentheses again.
+#![tactic(auto)]
+
 ghost use Rattle.std.specs.Prelude.{◌≡◌};
 ghost use Rattle.meaning.specs.Expression.{joins};
 ghost use Rattle.expression_laws.specs.Reader.{tight, loose, operator_of, IsLetter, layer_of, letter_at, a_factor, a_product, a_sum};
