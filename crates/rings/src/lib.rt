@@ -1,4 +1,6 @@
 // Judging rings number by number: what has been read, the fault of the number that is due, and what has been read after it.
+#![tactic(auto)]
+
 ghost use Rattle.std.specs.Prelude.{◌≡◌, ◌+◌, ◌<◌, pos, length, get_or, set};
 ghost use Rattle.basic_laws.specs.Signed.{key_of, unkey_of};
 ghost use Rattle.meaning.specs.Numbers.{limit};
@@ -23,7 +25,7 @@ const LAST: u64 = Scanline::LAYERS as u64 - 1;
 const PAIRS: u64 = 4096;
 
 // The number that is due.
-#[derive(Drop)]
+#[derive(Clone, Copy)]
 pub enum Due {
     Layer,
     Count,
@@ -34,7 +36,7 @@ pub enum Due {
 // What is known between two numbers. `more` are the pairs of the ring after the one that is due or begun, `room` the pairs that other rings may
 // still have; `fresh` says that no pair of the ring is whole yet. (px, py) is the pair before and (fx, fy) the ring's first: coordinates stand 2^31
 // above themselves.
-#[derive(Drop)]
+#[derive(Clone, Copy)]
 pub struct State {
     pub due: Due,
     pub layer: u64,
