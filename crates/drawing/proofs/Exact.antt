@@ -19,7 +19,7 @@ use lib.IntN.{ℤ, pos, negsuc, nat_abs}
 use lib.Dec.{T, leb, eqb, lit≤, lit<, le→leb, lt→ltb}
 use lib.Pow.{pow-add, pow_pos, pow_mono, shl_lt}
 use borrow.Author.Tests.{le-leb, lt-leb, ne_eqb}
-use lib.Ieee.{Float, fin, binary32, is_nan, to_bits, of_bits, of_fields, odd, size, mul, of_int, round, fits, unlike, in_float}
+use lib.Ieee.{Float, nan, inf, fin, binary32, is_nan, to_bits, of_bits, of_fields, odd, size, mul, of_int, round, fits, unlike, in_float}
 use lib.Ieee.Digits.{size-lt, size_reaches, size-le}
 use lib.Ieee.Fits.{of_int-fits, mul-fits}
 use lib.Ieee.Bits.{of_bits-fits, to_bits-of_bits, of_bits-to_bits, to_bits-lt}
@@ -198,6 +198,8 @@ exact_unique d z r s e g =
 finite_no_nan : (x : Float) (s : Bool) (a c : ℕ) → HasValue x s a c → T (not (is_nan x))
 unfolding is_nan
 finite_no_nan (fin t m e) s a c v = tt
+finite_no_nan nan s a c v = elim v [ ]
+finite_no_nan (inf _) s a c v = elim v [ ]
 
 value_exact : (d : ℤ) (z : ℕ) (r : Float) → nat_abs d ≤ farthest → z ≤ 16 → T (fits binary32 r) → HasValue r (negative d) (nat_abs d) (2 ^ z) → ExactFloat d z r
 value_exact d z r h Z f v =

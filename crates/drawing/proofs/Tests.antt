@@ -1,10 +1,11 @@
 -- Tests and differences of signed numbers, as the code makes them, against the definitions. Assumes nothing.
 --
+--   told                  what a call of a test said, of the number itself
 --   up_to_in, up_to_out   the two halves of the test `0 <= z && z <= n`
 --   view_zoom             the zoom of a view in range is not negative, and at most 16
 --   all_near              the size of each of three offsets that are drawn
 --   minus_fits            a difference of two 32-bit numbers fits 64 bits
-use mathlib.Core.Path.{◌≡◌, refl, sym, ◌∙◌, subst}
+use mathlib.Core.Path.{◌≡◌, refl, sym, ap, ◌∙◌, subst}
 use mathlib.Core.Bool.{Bool, true, false, ◌&&◌, true≢false, false≢true, cond}
 use Prim.Native.Nat.{ℕ, zero, suc, ◌+◌, ◌-◌, ◌≤◌, zero-le}
 use native.Mathlib.Omega.{arith}
@@ -12,11 +13,15 @@ use lib.Dec.{T, ltb}
 use lib.IntN.{ℤ, pos, negsuc, nat_abs, sub_ℕ, ◌-ℤ◌}
 use lib.Signed.{mag, le_z, non_neg}
 use borrow.Author.Tests.{le-leb, leb-true}
-use mir.Syntax.{w32, w64}
-use mir.Val.{SFits}
+use mir.Syntax.{Width, w32, w64}
+use mir.Val.{SFits, to_z, of_z}
+use mir.ValLaws.{to_z-of_z}
 use Rattle.meaning.specs.Numbers.{zero_to, limit, in_range}
 use Rattle.meaning.specs.Drawn.{view_in_range, farthest, all_drawn}
 use Rattle.basic_laws.specs.Tests.{and_left, and_right}
+
+pub told : (g : ℤ → Bool) (w : Width) (x : ℤ) {r b : Bool} → SFits w x → r ≡ g (to_z w (of_z w x)) → r ≡ b → g x ≡ b
+told g w x f e t = ap g (sym (to_z-of_z w x f)) ∙ sym e ∙ t
 
 pub up_to_in : (n : ℕ) (x z : ℤ) → x ≡ z → le_z (pos 0) x ≡ true → le_z x (pos n) ≡ zero_to n z
 up_to_in n x z e h = subst (λ (y : ℤ). le_z x (pos n) ≡ zero_to n y) e (go x h)

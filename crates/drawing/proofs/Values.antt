@@ -8,7 +8,7 @@ use mathlib.Core.Bool.{Bool, ◌&&◌}
 use lib.IntN.{ℤ, pos, negsuc}
 use lib.Dec.{T, ltb, leb, eqb, eqb→eq}
 use lib.Pow.{pow-add, pow_pos}
-use lib.Ieee.{Float, fin, Format, prec, emax, low, up, down, unlike, round, mul, fits}
+use lib.Ieee.{Float, nan, inf, fin, Format, prec, emax, low, up, down, unlike, round, mul, fits}
 use lib.Ieee.Fits.{and_l, up_pos, down_pos}
 use lib.Ieee.Exact.{HasValue}
 use lib.Ieee.Scale.{round_same}
@@ -92,6 +92,12 @@ value_unique f (fin t (suc m) e) (fin u zero g) s a c C p q v w =
 value_unique f (fin t (suc m) e) (fin u (suc n) g) s a c C p q v w =
     let r = odd_one_way (suc m) (suc n) e g (is_odd f t m e p) (is_odd f u n g q) (cross (suc m * up e) (suc n * up g) (down e) (down g) a c C v.1 w.1) in
     λ i. fin ((v.0 ∙ sym w.0) i) (r.0 i) (r.1 i)
+value_unique f nan y s a c C p q v w = elim v [ ]
+value_unique f (inf _) y s a c C p q v w = elim v [ ]
+value_unique f (fin t zero e) nan s a c C p q v w = elim w [ ]
+value_unique f (fin t zero e) (inf _) s a c C p q v w = elim w [ ]
+value_unique f (fin t (suc m) e) nan s a c C p q v w = elim w [ ]
+value_unique f (fin t (suc m) e) (inf _) s a c C p q v w = elim w [ ]
 
 -- from one fraction to another of the same size
 pub rescale : (x : Float) (s : Bool) (w l num den : ℕ) → 0 < l → num * l ≡ w * den → HasValue x s w l → HasValue x s num den
@@ -104,6 +110,8 @@ rescale (fin t m e) s w l num den p h v = (
       ∙ ap (λ (x : ℕ). x * down e) (sym h)
       ∙ mul_right_comm num l (down e)),
 )
+rescale nan s w l num den p h v = elim v [ ]
+rescale (inf _) s w l num den p h v = elim v [ ]
 
 four : (a b c d : ℕ) → a * b * (c * d) ≡ a * c * (b * d)
 four a b c d = simp (mul_assoc, mul_left_comm)
@@ -116,3 +124,7 @@ mul_value f (fin s' m e) (fin t' n g) s t a c b d C D v w =
     ∙ ap (λ (z : Bool). round f (unlike s z) (m * up e * (n * up g)) (down e * down g)) w.0
     ∙ round_same f (unlike s t) (m * up e * (n * up g)) (down e * down g) (a * b) (c * d) (mul-pos (down_pos e) (down_pos g)) (mul-pos C D)
     (four (m * up e) (n * up g) c d ∙ ap (λ (z : ℕ). z * (n * up g * d)) v.1 ∙ ap (λ (z : ℕ). a * down e * z) w.1 ∙ four a (down e) b (down g))
+mul_value f nan y s t a c b d C D v w = elim v [ ]
+mul_value f (inf _) y s t a c b d C D v w = elim v [ ]
+mul_value f (fin s' m e) nan s t a c b d C D v w = elim w [ ]
+mul_value f (fin s' m e) (inf _) s t a c b d C D v w = elim w [ ]

@@ -1,4 +1,6 @@
 // Drawn numbers: one record in a view, its three numbers as exact 32-bit floats, or a refusal.
+#![tactic(auto)]
+
 ghost use Rattle.std.specs.Prelude.{true, ◌≡◌, ◌≤◌, nat_abs, ◌-ℤ◌};
 ghost use Rattle.meaning.specs.Numbers.{zero_to, pick, in_range};
 ghost use Rattle.meaning.specs.Drawn.{view_in_range, record_in_range, farthest, all_drawn, ExactFloat};
