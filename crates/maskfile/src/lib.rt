@@ -1,4 +1,6 @@
 // Reading a mask file.
+#![tactic(auto)]
+
 ghost use Rattle.std.specs.Prelude.{◌≡◌, ◌+◌, ◌≤◌, ◌<◌, ◌++◌, length, drop};
 ghost use Rattle.meaning.specs.MaskFile.{spelt, most, five};
 ghost use Rattle.meaning.specs.Faults.{Read};

@@ -1,4 +1,6 @@
 // Writing a mask file.
+#![tactic(auto)]
+
 ghost use Rattle.std.specs.Prelude.{◌≡◌, ◌≤◌};
 ghost use Rattle.meaning.specs.MaskFile.{five, bytes_of};
 ghost use Rattle.meaning.specs.Faults.{Written};
