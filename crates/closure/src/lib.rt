@@ -1,5 +1,7 @@
 // Closed by ends: a list is closed exactly where, in each layer and at each x, as many edges begin as end. Here on the ranks of the x, by marks: a mark stands raised by
 // Scanline::ZERO.
+#![tactic(auto)]
+
 ghost use Rattle.std.specs.Prelude.{◌≡◌, true, ◌+◌, ◌<◌, ◌≤◌, length};
 ghost use Rattle.marks.specs.Marks.{Marked};
 ghost use Rattle.closure.specs.Testing.{edges_by, EvenFrom, RowsOk, EvenRows, EvenTold, Found, TestOk, Tested};

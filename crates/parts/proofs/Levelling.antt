@@ -8,7 +8,7 @@ use lib.IntN.{ℤ}
 use lib.ListN.{length, get_or, drop}
 use lib.Seq.{drop-cons}
 use Rattle.meaning.specs.Records.{Record, rec}
-use Rattle.records.specs.Put.{put_at, emitted, RecordOk}
+use Rattle.records.specs.Put.{put_at, RecordOk}
 use Rattle.records.specs.Emitting.{Left, left_all, left_one, left_none, length_emitted}
 use Rattle.horizontal.specs.Words.{on_level, height_of, from_of, to_of, level_of}
 use Rattle.parts.specs.Parted.{LevelsOk, levelled}

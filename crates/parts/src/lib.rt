@@ -1,4 +1,6 @@
 // One part of the result into the lent buffer: the horizontals that the working array holds, and their ends into the verticals.
+#![tactic(auto)]
+
 ghost use Rattle.std.specs.Prelude.{◌≡◌};
 ghost use Rattle.parts.specs.Parted.{LevelsOk, levelled, PartOk, Parted};
 
