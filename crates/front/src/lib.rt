@@ -1,4 +1,6 @@
 // An edge list made ready for the sweep: in steps, its x ranked, and whether it is closed.
+#![tactic(auto)]
+
 ghost use Rattle.std.specs.Prelude.{map};
 ghost use Rattle.meaning.specs.Numbers.{limit};
 ghost use Rattle.meaning.specs.Edges.{edges_of};

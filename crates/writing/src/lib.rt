@@ -1,4 +1,6 @@
 // The result of a sweep into the lent buffer, or refused with the buffer as it was; and its area.
+#![tactic(auto)]
+
 ghost use Rattle.std.specs.Prelude.{◌≡◌, ◌+◌, ◌*◌, ◌≤◌, length};
 ghost use Rattle.sweep_laws.specs.Lines.{lines_to};
 ghost use Rattle.writing.specs.Writing.{MeasureOk, Measures, AgainOk, written, WriteOk, Wrote};

@@ -1,0 +1,34 @@
+-- `writing::measure` meets its contract. Assumes nothing.
+use native.Mathlib.Nat.{sub-zero}
+use native.Mathlib.Omega.{arith}
+use Rattle.writing.specs.Loops.{measuring_start, fill_ready, count_low, count_ready, sum_low, measuring_more, measuring_done}
+use borrow.Author.Rules.{rules}
+use Rattle.writing.proofs.measure.Goals as goal
+
+pub loop-g-init : goal.loop-g-init
+loop-g-init c = measuring_start c.requires
+
+pub fill-f-requires : goal.fill-f-requires
+fill-f-requires c = let S = c.loop-g.invariant in fill_ready S.given S.at S.room S.rows
+
+pub slice_bounds-count-end : goal.slice_bounds-count-end
+slice_bounds-count-end c =
+    let l = count_low c.loop-g.invariant c.fill-f.ensures in
+    search rules
+
+pub count-requires : goal.count-requires
+count-requires c = rw sub-zero (count_ready c.loop-g.invariant c.fill-f.ensures)
+
+pub overflow_add-all : goal.overflow_add-all
+overflow_add-all c =
+    let l = sum_low c.loop-g.invariant c.fill-f.ensures in
+    search rules
+
+pub loop-g-smaller : goal.loop-g-smaller
+loop-g-smaller c = omega (arith, c.fill-f.ensures.more c.loop-g-test.true, c.loop-g-test.true)
+
+pub loop-g-preserved : goal.loop-g-preserved
+loop-g-preserved c = measuring_more c.loop-g.invariant c.fill-f.ensures (rw sub-zero at c.count.ensures) (omega (arith, c.fill-f.auto.covers, c.loop-g.invariant.rows))
+
+pub returns : goal.returns
+returns c = measuring_done c.loop-g.invariant (omega arith)

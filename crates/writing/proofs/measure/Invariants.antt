@@ -1,0 +1,13 @@
+-- `writing::measure` meets its contract. Assumes nothing.
+use Prim.Native.Nat.{◌-◌}
+use lib.ListN.{length}
+use Rattle.writing.specs.Loops.{Measuring}
+use Rattle.writing.proofs.measure.Given as goal
+
+abbrev pub invariant-loop-g : goal.invariant-loop-g
+invariant-loop-g l =
+    Measuring l.base l.ws l.layers l.ends l.truth l.vx (length l.initial.covers) l.initial.loc l.loc l.initial.cs l.cs l.initial.c l.c l.initial.covers l.covers l.initial.told l.told l.initial.marks l.marks l.g l.all l.last l.sum
+
+abbrev pub decreases-loop-g : goal.decreases-loop-g
+decreases-loop-g l =
+    length l.ws - l.g
