@@ -1,4 +1,6 @@
 // Bytes, words and numbers written into a buffer that the caller lends: from the place `at` on, for which there must be room. Each function answers the place after.
+#![tactic(auto)]
+
 ghost use Rattle.std.specs.Prelude.{◌≡◌, [], ◌∷◌, ◌+◌, ◌≤◌, ◌<◌, nat_abs, length};
 ghost use Rattle.meaning.specs.Printed.{decimal, signed_text};
 ghost use Rattle.printed_laws.specs.Stores.{Written};

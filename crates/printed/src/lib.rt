@@ -1,4 +1,6 @@
 // The text of an answer, written into a buffer that the caller lends. There must be room for it, and how much is enough is said of each.
+#![tactic(auto)]
+
 ghost use Rattle.std.specs.Prelude.{[], ◌∷◌, ◌++◌, ◌+◌, ◌*◌, ◌≤◌, ◌<◌, pos, length, get_or};
 ghost use Rattle.meaning.specs.Answers.{answer};
 ghost use Rattle.meaning.specs.Printed.{signed_text, first_line, area_line};
