@@ -1,4 +1,6 @@
 // What a walk answers: to run, and to area.
+#![tactic(auto)]
+
 ghost use Rattle.std.specs.Prelude.{◌≡◌};
 ghost use Rattle.meaning.specs.Answers.{answer};
 ghost use Rattle.answers.specs.Said.{said};

@@ -21,7 +21,7 @@ use Rattle.meaning.specs.Answers.{Answer, answer, accepted, First, not_closed, t
 use Rattle.meaning.specs.Edges.{Edge, edges_of, Closed}
 use Rattle.meaning.specs.Expression.{Judged}
 use Rattle.meaning.specs.Records.{Record}
-use Rattle.meaning.specs.Calls.{Outcome, outcome, call_rows, Runs, Areas}
+use Rattle.meaning.specs.Calls.{call_rows}
 use Rattle.answers.specs.Said.{said}
 use Rattle.basic_laws.specs.Sound.{lifted}
 use Rattle.laws.specs.Accepting.{Passed, refused}
@@ -95,7 +95,7 @@ module _ {n : ℕ} {c covers told marks cs loc : List ℕ} (F : Fresh n c covers
   at_start ws layers ends = record {
     place = place_start ws;
     swept = rw (counts_are, zeros_are covers F.covers_none) (swept_fresh n ws layers ends);
-    told_is = zeros_are told F.Told-none ∙ sym (zeros_are covers F.covers_none);
+    told_is = zeros_are told F.told_none ∙ sym (zeros_are covers F.covers_none);
     fresh = F.marks_none;
   }
 

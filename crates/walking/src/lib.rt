@@ -1,4 +1,6 @@
 // A walk over an edge list to which refusals 1 to 4 do not apply: the records into the lent buffer, and the inside cells. Every working array is lent.
+#![tactic(auto)]
+
 ghost use Rattle.walked.specs.Walks.{Walks};
 ghost use Rattle.walking.specs.Working.{SweepOk, Sweeps, WorkOk};
 
