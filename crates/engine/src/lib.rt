@@ -1,5 +1,7 @@
 // The calls run and area: one walk tells both. Cost: the order of the edges' x and of their y, for each edge the strips that it spans, for each place the strips between its
 // edges' ends, and the records; where the horizontals are more than the working array holds, the sweep twice.
+#![tactic(auto)]
+
 ghost use Rattle.meaning.specs.Calls.{outcome, Runs, Areas};
 ghost use Rattle.answers.specs.Said.{said};
 ghost use Rattle.walked.specs.Walks.{Walks};

@@ -1,4 +1,6 @@
 // The working arrays of a walk, of two sizes: small ones are sooner made.
+#![tactic(auto)]
+
 ghost use Rattle.std.specs.Prelude.{◌/◌, ◌≤◌, length};
 ghost use Rattle.meaning.specs.Numbers.{limit};
 ghost use Rattle.meaning.specs.Answers.{accepted, First};
