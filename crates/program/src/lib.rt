@@ -1,4 +1,6 @@
 // What the program does between reading and writing: input bytes to output bytes.
+#![tactic(auto)]
+
 ghost use Rattle.std.specs.Prelude.{◌≡◌, length};
 ghost use Rattle.meaning.specs.Program.{text_of, Prints};
 ghost use Rattle.program.specs.Parts.{OfEdges, OfFile};
