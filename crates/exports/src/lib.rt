@@ -1,5 +1,7 @@
-// The calls as C functions, as include/laukavesp.h declares them: a slice is a pointer and its length in elements. None has a `requires`, and what each
-// promises is what the call that it hands on promises.
+// The calls as they are exported: over slices, numbers and C's structs. None has a `requires`, and what each promises is what the call that it hands on
+// promises. The crate `exports_c` hands them to C under the same names.
+#![tactic(auto)]
+
 ghost use Rattle.std.specs.Prelude.{◌≡◌};
 ghost use Rattle.meaning.specs.Calls.{outcome, Runs, Areas};
 ghost use Rattle.meaning.specs.Faults.{Read, Written, Edged};
@@ -10,40 +12,35 @@ ghost use Rattle.exports.specs.Shown.{shown, Shows};
 use answers::Answer;
 
 // The records of an expression over an edge list.
-#[unsafe(no_mangle)]
-pub extern "C" fn laukavesp_run(edges: &[i32], expression: &[u8], records: &mut [i32]) -> Answer
+pub fn laukavesp_run(edges: &[i32], expression: &[u8], records: &mut [i32]) -> Answer
     ensures { Runs edges.now expression.now records.old (outcome (said result) records.new) }
 {
     engine::run(edges, expression, records)
 }
 
 // The cells of an expression over an edge list.
-#[unsafe(no_mangle)]
-pub extern "C" fn laukavesp_area(edges: &[i32], expression: &[u8]) -> Answer
+pub fn laukavesp_area(edges: &[i32], expression: &[u8]) -> Answer
     ensures { Areas edges.now expression.now (said result) }
 {
     engine::area(edges, expression)
 }
 
 // The ring list of a mask file.
-#[unsafe(no_mangle)]
-pub extern "C" fn laukavesp_read(file: &[u8], rings: &mut [i32]) -> Answer
+pub fn laukavesp_read(file: &[u8], rings: &mut [i32]) -> Answer
     ensures { Read file.now rings.old (said result, rings.new) }
 {
     maskfile::read(file, rings)
 }
 
 // The mask file of a ring list.
-#[unsafe(no_mangle)]
-pub extern "C" fn laukavesp_write(rings: &[i32], file: &mut [u8]) -> Answer
+pub fn laukavesp_write(rings: &[i32], file: &mut [u8]) -> Answer
     ensures { Written rings.now file.old (said result, file.new) }
 {
     maskwriter::write(rings, file)
 }
 
 // The edges of a ring list.
-#[unsafe(no_mangle)]
-pub extern "C" fn laukavesp_edges(rings: &[i32], edges: &mut [i32]) -> Answer
+pub fn laukavesp_edges(rings: &[i32], edges: &mut [i32]) -> Answer
     ensures { Edged rings.now edges.old (said result, edges.new) }
 {
     ringedges::edges_of(rings, edges)
@@ -90,8 +87,7 @@ fn shown(drawn: drawing::Drawn) -> DrawnNumbers
 }
 
 // The record (kind, place, from, to) in the view with the origin (ox, oy) and the zoom.
-#[unsafe(no_mangle)]
-pub extern "C" fn laukavesp_draw(
+pub fn laukavesp_draw(
     ox: i32,
     oy: i32,
     zoom: i32,

@@ -1,3 +1,5 @@
+#![tactic(auto)]
+
 // Reads an expression, a line feed and a mask file from standard input, and prints the answer: one read, one write.
 fn main() {
     let mut input = [0u8; 65537];

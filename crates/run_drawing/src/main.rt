@@ -1,5 +1,8 @@
 // Draws records and prints for each the answer's number, its case, and the bits of the three floats in hexadecimal.
-use libc::STDOUT_FILENO;
+#![tactic(auto)]
+
+// Standard output.
+const STDOUT: i32 = 1;
 
 fn wide(n: u32) -> u64 {
     n as u64
@@ -15,30 +18,30 @@ fn bits(x: f32) -> u64 {
 }
 
 fn show(x: f32) {
-    io::write_all(STDOUT_FILENO, b" ");
-    io::print_hex(STDOUT_FILENO, bits(x), 8);
+    io::write_all(STDOUT, b" ");
+    io::print_hex(STDOUT, bits(x), 8);
 }
 
 fn show_floats(e: drawing::Floats) {
     show(e.place);
     show(e.from);
     show(e.to);
-    io::write_all(STDOUT_FILENO, b"\n");
+    io::write_all(STDOUT, b"\n");
 }
 
 fn line(ox: i32, oy: i32, zoom: i32, kind: i32, place: i32, from: i32, to: i32) {
     match drawing::draw(ox, oy, zoom, kind, place, from, to) {
         drawing::Drawn::Level(e) => {
-            io::write_all(STDOUT_FILENO, b"0 level");
+            io::write_all(STDOUT, b"0 level");
             show_floats(e);
         }
         drawing::Drawn::Upright(e) => {
-            io::write_all(STDOUT_FILENO, b"0 upright");
+            io::write_all(STDOUT, b"0 upright");
             show_floats(e);
         }
         drawing::Drawn::Refused(n) => {
-            io::print_decimal(STDOUT_FILENO, wide(n));
-            io::write_all(STDOUT_FILENO, b" refused\n");
+            io::print_decimal(STDOUT, wide(n));
+            io::write_all(STDOUT, b" refused\n");
         }
     }
 }

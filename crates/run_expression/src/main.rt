@@ -1,5 +1,7 @@
 // Judges each line of standard input as an expression and writes a line for it: the number of the answer and its value, and the sum of m + 1 over the covers m at which the text
 // holds.
+#![tactic(auto)]
+
 ghost use Rattle.std.specs.Prelude.{◌≤◌, length};
 
 fn main() {

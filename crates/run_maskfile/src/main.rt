@@ -1,26 +1,30 @@
 // Reads, writes and makes edges of ring lists, and prints what each call answers.
+#![tactic(auto)]
+
 ghost use Rattle.std.specs.Prelude.{◌≤◌};
 
 use answers::Answer;
-use libc::STDOUT_FILENO;
+
+// Standard output.
+const STDOUT: i32 = 1;
 
 fn text(s: &[u8]) {
-    io::write_all(STDOUT_FILENO, s);
+    io::write_all(STDOUT, s);
 }
 
 // A case's name, with the answer's number and value.
 fn say(name: &[u8], a: Answer) {
     text(name);
     text(b": ");
-    io::print_decimal(STDOUT_FILENO, a.number);
+    io::print_decimal(STDOUT, a.number);
     text(b" ");
-    io::print_decimal(STDOUT_FILENO, a.value);
+    io::print_decimal(STDOUT, a.value);
     text(b"\n");
 }
 
 fn byte(b: u8) {
     text(b" ");
-    io::print_hex(STDOUT_FILENO, b as u64, 2);
+    io::print_hex(STDOUT, b as u64, 2);
 }
 
 // The bytes of a file, in hexadecimal.
@@ -38,9 +42,9 @@ fn number(k: u32) {
     text(b" ");
     if k < 2147483648 {
         text(b"-");
-        io::print_decimal(STDOUT_FILENO, (2147483648 - k) as u64);
+        io::print_decimal(STDOUT, (2147483648 - k) as u64);
     } else {
-        io::print_decimal(STDOUT_FILENO, (k - 2147483648) as u64);
+        io::print_decimal(STDOUT, (k - 2147483648) as u64);
     }
 }
 

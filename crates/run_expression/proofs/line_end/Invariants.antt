@@ -1,0 +1,10 @@
+-- `run_expression::line_end` meets its contract. Assumes nothing.
+use Prim.Native.Nat.{◌-◌, ◌≤◌}
+use lib.ListN.{length}
+use Rattle.run_expression.proofs.line_end.Given as goal
+
+abbrev pub invariant-loop-i : goal.invariant-loop-i
+invariant-loop-i l = (l.at ≤ l.i) × (l.i ≤ length l.input)
+
+abbrev pub decreases-loop-i : goal.decreases-loop-i
+decreases-loop-i l = length l.input - l.i
