@@ -8,7 +8,7 @@ import tempfile
 
 import kit
 
-ROOT = os.path.dirname(os.path.dirname(os.path.abspath(__file__)))
+ROOT = kit.ROOT
 HEADERS = {
     'stddef.h': 'typedef __SIZE_TYPE__ size_t;\n#define NULL ((void *)0)\n',
     'stdint.h': 'typedef __UINT8_TYPE__ uint8_t;\ntypedef __INT32_TYPE__ int32_t;\ntypedef __UINT32_TYPE__ uint32_t;\ntypedef __UINT64_TYPE__ uint64_t;\n',
@@ -24,15 +24,14 @@ def compile_c(room, *words):
 
 def archive():
     """Whether the library is proved and written."""
-    kit.tool('rt', 'staticlib', 'exports', cwd=ROOT)
-    return True
+    return os.path.isfile(kit.archive())
 
 
 def prints(room, source, expected):
     """Whether a C file prints what the file `expected` has."""
     base = os.path.join(room, os.path.basename(source)[:-2])
     compile_c(room, '-std=c99', '-c', os.path.join(ROOT, source), '-o', base + '.o')
-    kit.link(base, base + '.o', os.path.join(ROOT, 'target', 'staticlib', 'libexports.a'))
+    kit.link(base, base + '.o', kit.ARCHIVE)
     wrote = subprocess.run(kit.command(base), stdout=subprocess.PIPE, check=True).stdout
     with open(os.path.join(ROOT, expected), 'rb') as f:
         right = wrote == f.read()

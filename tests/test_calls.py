@@ -34,13 +34,13 @@ def due(numbers, text, room):
 
 
 def build(room):
-    test_c.archive()
+    kit.archive()
     for name, text in test_c.HEADERS.items():
         with open(os.path.join(room, name), "w") as f:
             f.write(text)
     test_c.compile_c(room, "-std=c99", "-c", os.path.join(ROOT, "tests", "ask.c"), "-o", os.path.join(room, "ask.o"))
     program = os.path.join(room, "ask")
-    kit.link(program, os.path.join(room, "ask.o"), os.path.join(ROOT, "target", "staticlib", "libexports.a"))
+    kit.link(program, os.path.join(room, "ask.o"), kit.ARCHIVE)
     return kit.command(program)
 
 

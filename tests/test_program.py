@@ -1,8 +1,7 @@
 #!/usr/bin/env python3
 """Runs the proved program over generated inputs, refused ones too, and compares what it prints with the cell-by-cell program, byte for byte.
 
-`rt ci` leaves the program in target/bin. It is an x86-64 one: it runs under the kit's own loader and C library, and on another machine under the kit's
-emulator, as `rt` itself runs programs. Another program to run may be given as the only argument."""
+The program runs with the kit's own loader and C library. Another program to run may be given as the only argument."""
 import collections
 import concurrent.futures
 import os
@@ -17,7 +16,6 @@ import kit
 SEED = 20261115
 CASES = 3000
 NUMBERS = {0, 6, 7, 8, 9, 10, 11, 12, 13, 14, 15, 16, 17}
-PROGRAM = pathlib.Path(__file__).resolve().parent.parent / "target" / "bin" / "laukavesp"
 
 
 def printed(words, data):
@@ -30,7 +28,7 @@ def printed(words, data):
 
 
 def main():
-    words = kit.command(pathlib.Path(sys.argv[1]).resolve() if sys.argv[1:] else PROGRAM)
+    words = kit.command(pathlib.Path(sys.argv[1]).resolve() if sys.argv[1:] else kit.program())
     inputs = list(generate.cases(SEED, CASES))
     given = collections.Counter()
     passed = failed = 0
