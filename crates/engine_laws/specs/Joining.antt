@@ -49,11 +49,12 @@ use Rattle.records.specs.Put.{numbers}
 use Rattle.strips.specs.Cover.{holds_of}
 use Rattle.horizontal.specs.Words.{on_level}
 use Rattle.vertical_laws.specs.Tips.{verticals_n}
-use Rattle.vertical_laws.specs.Ranked.{on_upright, verticals_ranked}
+use Rattle.vertical_laws.specs.Ranked.{on_upright}
+use Rattle.vertical_laws.proofs.Ranked.{verticals_ranked}
 use Rattle.vertical_laws.specs.Whole.{Horizontals}
 use Rattle.sweep_laws.specs.Lines.{lines_to}
 use Rattle.strip_laws.specs.Ordered.{EdgesOk, Ordered}
-use Rattle.strip_laws.specs.Found.{horizontals_are, area_found}
+use Rattle.strip_laws.proofs.Found.{horizontals_are, area_found}
 use Rattle.engine_laws.specs.Sounding.{edges_ok}
 
 pub record AcceptedCall (ns : List ℤ) (text : List ℕ) : Type 0 where

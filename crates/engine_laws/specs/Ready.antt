@@ -13,8 +13,8 @@ use Rattle.words.specs.Words.{value_of}
 use Rattle.grid_laws.specs.Places.{Rising}
 use Rattle.crossings.specs.Swept.{Words}
 use Rattle.strip_laws.specs.Ordered.{no_edge, EdgesOk, Ordered}
-use Rattle.strip_laws.specs.Found.{values_long, values_rise}
-use Rattle.strip_laws.specs.Ready.{ordered_words, heights_low, values_low}
+use Rattle.strip_laws.proofs.Found.{values_long, values_rise}
+use Rattle.strip_laws.proofs.Ready.{ordered_words, heights_low, values_low}
 
 pub record Ready (n base : ℕ) (ws layers ends values : List ℕ) (r : ℕ) : Type 0 where
   pub words : Words n ws layers ends

@@ -1,3 +1,3 @@
 #![tactic(auto)]
 
-// Laws and no program: the laws of the expression, in specs/.
+// Laws and no program: the laws of the expression, in specs/ and proofs/.

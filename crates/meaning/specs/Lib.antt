@@ -13,5 +13,3 @@ pub mod Faults
 pub mod Drawn
 pub mod Printed
 pub mod Program
-pub mod Spots
-pub mod PrintedSpots

@@ -1,7 +1,7 @@
 -- Decimal numbers. Assumes nothing.
 --
 --   Decimal n t       t is a text of the value n in decimal without leading zeros
---   is_decimal        `decimal n` is one, and only_decimal: the only one
+--   is_decimal        `decimal n` is one; the only one: `only_decimal`, in proofs/Decimals.antt
 --   decimal_small, decimal_large   a number of one digit, and of more
 --   small_length, large_length     how many digits each has
 --   decimal_length    a number below 10^k has at most k digits
@@ -58,14 +58,6 @@ large_length n h = ap length (decimal_large n h) ∙ length-append (decimal (n /
 pub data Decimal : ℕ → List ℕ → Type 0 where
   one : {d : ℕ} → d < 10 → Decimal d (digit d ∷ [])
   more : {n d : ℕ} {t : List ℕ} → 0 < n → d < 10 → Decimal n t → Decimal (10 * n + d) (t ++ (digit d ∷ []))
-
-pub only_decimal : {n : ℕ} {t : List ℕ} → Decimal n t → t ≡ decimal n
-only_decimal (one {d} h) = sym (decimal_small d h)
-only_decimal (more {n} {d} {t} p h before) =
-    let q : (10 * n + d) / 10 ≡ n = omega arith in
-    let r : (10 * n + d) % 10 ≡ d = omega arith in
-    ap (λ (u : List ℕ). u ++ (digit d ∷ [])) (only_decimal before)
-    ∙ sym (decimal_large (10 * n + d) (omega arith) ∙ rw (q, r))
 
 pub is_decimal : (n : ℕ) → Decimal n (decimal n)
 is_decimal n = go (suc n) n (omega arith)

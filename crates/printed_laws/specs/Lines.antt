@@ -4,15 +4,16 @@
 --   line_at ns j             that of the four numbers from place j on
 --   number_lines ns          the lines of a list of numbers, four to a line
 --   accepted_text v ns n     the text of the answer 0 with the value v, the records' numbers ns and n cells
---   printed_accepted        it is what the program prints of records that have these numbers
 --   printed_refused         a refusal is printed as its first line
 --   lines_none, lines_more  the lines from place j on, where fewer than four numbers are left, and where not
---   first_words, record_words, area_words   a line, each word with the byte after it
+--   first_words, area_words   a line, each word with the byte after it
+--
+-- What rests on the order of a line's numbers is in proofs/Lines.antt.
 use Rattle.std.specs.Prelude.{◌≡◌, refl, List, [], ◌∷◌, ◌++◌, ℕ, zero, suc, ◌+◌, ◌-◌, ◌≤◌, ◌<◌, ℤ, pos, length, drop, get_or}
-use Rattle.std.proofs.Common.{sym, ap, ◌∙◌, append_assoc, append-nil, arith, length-drop, drop-cons}
+use Rattle.std.proofs.Common.{ap, ◌∙◌, append-nil, arith, length-drop, drop-cons}
 use Rattle.meaning.specs.Answers.{answer, accepted}
-use Rattle.meaning.specs.Records.{Record, rec, numbers_of}
-use Rattle.meaning.specs.Printed.{decimal, signed_text, text_line, first_line, record_line, record_lines, area_line, printed}
+use Rattle.meaning.specs.Records.{Record}
+use Rattle.meaning.specs.Printed.{decimal, signed_text, text_line, first_line, area_line, printed}
 
 unfoldable pub number_line : ℤ → ℤ → ℤ → ℤ → List ℕ
 number_line a b c d = text_line (signed_text a ∷ signed_text b ∷ signed_text c ∷ signed_text d ∷ [])
@@ -30,15 +31,6 @@ line_at ns j = number_line (get_or ns j (pos 0)) (get_or ns (j + 1) (pos 0)) (ge
 
 unfoldable pub accepted_text : ℕ → List ℤ → ℕ → List ℕ
 accepted_text v ns n = first_line (accepted v) ++ (number_lines ns ++ area_line n)
-
-number_lines_of : (rs : List (Record ℤ)) → number_lines (numbers_of rs) ≡ record_lines rs
-unfolding numbers_of number_lines number_line record_lines record_line signed_text
-number_lines_of [] = refl
-number_lines_of (rec kind p f t ∷ rs) = ap (λ (u : List ℕ). record_line (rec kind p f t) ++ u) (number_lines_of rs)
-
-pub printed_accepted : (v : ℕ) (rs : List (Record ℤ)) (n : ℕ) → accepted_text v (numbers_of rs) n ≡ printed (accepted v) rs n
-unfolding accepted_text printed
-printed_accepted v rs n = ap (λ (t : List ℕ). first_line (accepted v) ++ (t ++ area_line n)) (number_lines_of rs)
 
 pub printed_refused : (k v : ℕ) (rs : List (Record ℤ)) (n : ℕ) → 0 < k → printed (answer k v) rs n ≡ first_line (answer k v)
 unfolding printed
@@ -75,10 +67,6 @@ lines_more ns j h =
 pub first_words : (k v : ℕ) → first_line (answer k v) ≡ decimal k ++ ((32 ∷ []) ++ (decimal v ++ (10 ∷ [])))
 unfolding first_line text_line
 first_words k v = refl
-
-pub record_words : (ns : List ℤ) (j : ℕ) → line_at ns j ≡ (signed_text (get_or ns j (pos 0)) ++ (32 ∷ [])) ++ ((signed_text (get_or ns (j + 1) (pos 0)) ++ (32 ∷ [])) ++ ((signed_text (get_or ns (j + 2) (pos 0)) ++ (32 ∷ [])) ++ (signed_text (get_or ns (j + 3) (pos 0)) ++ (10 ∷ []))))
-unfolding line_at number_line text_line
-record_words ns j = sym (simp append_assoc)
 
 pub area_words : (n : ℕ) → area_line n ≡ (97 ∷ 114 ∷ 101 ∷ 97 ∷ 32 ∷ []) ++ (decimal n ++ (10 ∷ []))
 unfolding area_line text_line

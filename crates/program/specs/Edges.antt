@@ -13,7 +13,8 @@ use Rattle.meaning.specs.Printed.{first_line, printed}
 use Rattle.meaning.specs.Program.{refuses, NoRoom, Shown}
 use Rattle.basic_laws.specs.Tables.{Silent}
 use Rattle.expression_laws.specs.Meanings.{one_expression}
-use Rattle.printed_laws.specs.Lines.{accepted_text, printed_accepted}
+use Rattle.printed_laws.specs.Lines.{accepted_text}
+use Rattle.printed_laws.proofs.Lines.{printed_accepted}
 use Rattle.call_laws.specs.Judging.{call_silent, AcceptedRun, run_accepted, one_area}
 use Rattle.call_laws.specs.Refusals.{area_given}
 use Rattle.program.specs.Parts.{OfEdges}

@@ -1,1 +1,3 @@
+#![tactic(auto)]
+
 // Laws only: what the sweep by ranks finds is what the edges in steps have.

@@ -24,7 +24,7 @@ use Rattle.weights.specs.WeightLaws.{weigh_none, weigh_more}
 use Rattle.levels.specs.declared.Reading.{Reading}
 use Rattle.levels.specs.Line.{line_of, LineOk, LineRead}
 use Rattle.sweep_laws.specs.Lines.{lines_to}
-use Rattle.sweep_laws.specs.Steps.{place_next, lines_advanced}
+use Rattle.sweep_laws.proofs.Steps.{place_next, lines_advanced}
 use Rattle.sweep.specs.Filling.{Given, At, FillOk, Fills}
 
 pub record Going (base : ℕ) (ws layers ends : List ℕ) (truth : List Bool) (vx : List ℕ) (n g sum : ℕ) (loc₀ loc c m told d₀ d : List ℕ) (e k acc : ℕ) : Type 0 where

@@ -1,3 +1,3 @@
 #![tactic(auto)]
 
-// Laws and no program: the horizontals that the sweep finds, in specs/.
+// Laws and no program: the horizontals that the sweep finds, in specs/ and proofs/.

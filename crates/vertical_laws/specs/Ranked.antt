@@ -1,21 +1,24 @@
--- The same over ranks, as the program has them: the place of x in the rising list vx of all x stands for x. Assumes nothing.
+-- Ends and vertical records by ranks, as the program has them: the place of x in the rising list vx of all x stands for x. Their law is in proofs/Ranked.antt.
+-- Assumes nothing.
 --
 --   on_upright vx r                 the record in steps of a vertical record by ranks
---   ranked                         THE LAW: verticals by ranks are the verticals, by ranks
---   verticals_ranked               so from the horizontals by ranks come the vertical records of the result
-use Rattle.std.specs.Prelude.{◌≡◌, refl, Bool, true, false, List, [], ◌∷◌, ◌++◌, map, ℕ, zero, suc, ◌≤◌, ◌<◌, eqb, length, get_or}
+--   on_tip vx t                     the end in steps of an end by ranks
+--   RankTip n t                     the x of the end t is a rank below n
+--   tips_ranks                      the ends of horizontals by ranks are ends by ranks
+--   rising_one                      no two ranks stand for one x
+--   by_ranks                        buckets by ranks are the buckets, by ranks
+use Rattle.std.specs.Prelude.{◌≡◌, refl, Bool, false, List, [], ◌∷◌, ◌++◌, map, ℕ, zero, suc, ◌≤◌, ◌<◌, eqb, length, get_or}
 use Rattle.std.proofs.Common.{sym, ap, ap₂, ◌∙◌, arith, ne_eqb}
 use Rattle.std.proofs.Math.Decide.{dec_lt}
 use Rattle.meaning.specs.Records.{Record, rec, each}
 use Rattle.basic_laws.specs.Tests.{eqb_same}
 use Rattle.basic_laws.specs.Lists.{All}
-use Rattle.grid_laws.specs.Plane.{level_n, upright_n, kind_n, each_of}
+use Rattle.grid_laws.specs.Plane.{each_of}
 use Rattle.grid_laws.specs.Places.{has, has_ne, has_tail, Rising, each_at}
-use Rattle.grid_laws.specs.Beside.{Bounded}
-use Rattle.horizontal.specs.Words.{on_level, Ranks}
-use Rattle.vertical_laws.specs.Tips.{Tip, tip, tips_of, keep_if, only, pairs, by_x, verticals_n}
+use Rattle.horizontal.specs.Words.{Ranks}
+use Rattle.vertical_laws.specs.Tips.{Tip, tip, tips_of, keep_if, only, by_x}
 use Rattle.vertical_laws.specs.LineTips.{each_shift}
-use Rattle.vertical_laws.specs.PlaneTips.{each_same, verticals_are}
+use Rattle.vertical_laws.specs.PlaneTips.{each_same}
 use Rattle.vertical_laws.specs.Theorem.{keep_map, map_each}
 
 abbrev pub on_upright : List ℕ → Record ℕ → Record ℕ
@@ -31,18 +34,6 @@ pub tips_ranks : (n : ℕ) (hr : List (Record ℕ)) → All (Ranks n) hr → All
 unfolding tips_of
 tips_ranks n [] a = tt
 tips_ranks n (rec k y f t ∷ hr) a = (a.0.0, (a.0.1, tips_ranks n hr a.1))
-
-pub tips_on : (vx : List ℕ) (hr : List (Record ℕ)) → tips_of (map (on_level vx) hr) ≡ map (on_tip vx) (tips_of hr)
-unfolding tips_of
-tips_on vx [] = refl
-tips_on vx (rec k y f t ∷ hr) = ap (λ ts. tip (get_or vx f 0) y false ∷ tip (get_or vx t 0) y true ∷ ts) (tips_on vx hr)
-
-pub pairs_on : (vx : List ℕ) (ts : List (Tip ℕ)) → pairs (map (on_tip vx) ts) ≡ map (on_upright vx) (pairs ts)
-unfolding pairs
-pairs_on vx [] = refl
-pairs_on vx (t ∷ []) = refl
-pairs_on vx (tip x y true ∷ tip x' y' b ∷ ts) = ap (◌∷◌ (rec 1 (get_or vx x 0) y y')) (pairs_on vx ts)
-pairs_on vx (tip x y false ∷ tip x' y' b ∷ ts) = ap (◌∷◌ (rec 1 (get_or vx x 0) y' y)) (pairs_on vx ts)
 
 -- ---- a rising list
 
@@ -101,17 +92,3 @@ by_ranks n vx ts s l a =
     ∙ of_index (λ x. only (λ k. eqb k x) (map (on_tip vx) ts)) vx
     ∙ each_same _ (λ r. map (on_tip vx) (only (λ k. eqb k r) ts)) 0 (length vx) (λ r p q. only_on vx r ts s (omega arith) a)
     ∙ map_each (on_tip vx) (λ r. only (λ k. eqb k r) ts) 0 (length vx)
-
-pub ranked : (n : ℕ) (vx : List ℕ) (hr : List (Record ℕ)) → Rising 0 vx → ((k : ℕ) → n ≤ k → has k vx ≡ false) → All (Ranks (length vx)) hr
-    → verticals_n n (map (on_level vx) hr) ≡ map (on_upright vx) (verticals_n (length vx) hr)
-unfolding verticals_n
-ranked n vx hr s l a =
-    ap (λ ts. pairs (by_x n ts)) (tips_on vx hr)
-    ∙ ap pairs (by_ranks n vx (tips_of hr) s l (tips_ranks (length vx) hr a))
-    ∙ pairs_on vx (by_x (length vx) (tips_of hr))
-
-pub verticals_ranked : (N : ℕ) (g : ℕ → ℕ → Bool) → Bounded N g → (vx : List ℕ) (hr : List (Record ℕ))
-    → Rising 0 vx → ((k : ℕ) → N < k → has k vx ≡ false) → All (Ranks (length vx)) hr → map (on_level vx) hr ≡ kind_n 0 (level_n g) N
-    → map (on_upright vx) (verticals_n (length vx) hr) ≡ kind_n 1 (upright_n g) N
-verticals_ranked N g b vx hr s l a e =
-    sym (ranked (suc N) vx hr s (λ k p. l k (omega arith)) a) ∙ ap (verticals_n (suc N)) e ∙ verticals_are N g b

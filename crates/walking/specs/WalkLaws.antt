@@ -40,7 +40,7 @@ use Rattle.sweep_laws.specs.Steps.{place_start}
 use Rattle.sweep.specs.Filling.{Given, At}
 use Rattle.strip_laws.specs.Ordered.{EdgesOk, Ordered}
 use Rattle.strip_laws.specs.Ready.{ordered_of}
-use Rattle.strip_laws.specs.Fresh.{closed_ranked}
+use Rattle.strip_laws.proofs.Fresh.{closed_ranked}
 use Rattle.engine_laws.specs.Ready.{Ready, ready}
 use Rattle.engine_laws.specs.Joining.{passed_first, sound, empty, levels, run_joined, area_joined}
 use Rattle.front.specs.Ranking.{RankOk, InRanks, BalancedAs}

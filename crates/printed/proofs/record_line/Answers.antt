@@ -1,5 +1,5 @@
 use mathlib.Core.Path.{sym}
-use Rattle.printed_laws.specs.Lines.{record_words}
+use Rattle.printed_laws.proofs.Lines.{record_words}
 use Rattle.printed_laws.specs.Stores.{and_then, as_text}
 use borrow.Author.Rules.{rules}
 use Rattle.printed.proofs.record_line.Goals as goal

@@ -21,7 +21,7 @@ use Rattle.strips.specs.Rows.{layer_fits}
 use Rattle.crossings.specs.Swept.{covers_by, Swept, edge_of, edges_to}
 use Rattle.crossings.specs.OnlyOne.{swept_one}
 use Rattle.strip_laws.specs.Ordered.{Ordered}
-use Rattle.strip_laws.specs.Ranked.{known, from_rank, to_rank, words_are, west_word, east_word, strip_at}
+use Rattle.strip_laws.proofs.Ranked.{known, from_rank, to_rank, words_are, west_word, east_word, strip_at}
 
 none_bits : of_bits 8 (λ _. false) ≡ 0
 unfolding of_bits

@@ -1,0 +1,2 @@
+-- The spot checks of the expression, computed.
+pub mod Spots
