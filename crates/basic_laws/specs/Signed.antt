@@ -5,7 +5,7 @@
 --   read32               a number that was written as bits and read again; widens, widened: and handed on as one of 64 bits
 --   eq_bits              the machine's test of equality, which goes by the bits
 --   told_yes, told_no    what a call of a test says, where `if !test(x)` was not taken, or was
---   within, outside      the two halves of a range test against `inRange`
+--   within, outside      the two halves of a range test against `in_range`
 --   key_of, unkey_of       z + 2^31 and back: orders and equations of 32-bit numbers are those of their keys (le_key, eq_key, key_inj)
 --   sub_pos, sub_neg, sub_same   a difference of naturals, by its sign; equal differences; minus_sub: the two ways to write it
 use Rattle.std.specs.Prelude.{◌≡◌, refl, Bool, true, false, not, ℕ, zero, suc, ◌+◌, ◌-◌, ◌<◌, ℤ, pos, negsuc, nat_abs, ◌+ℤ◌, ◌-ℤ◌, leb, ltb, eqb}

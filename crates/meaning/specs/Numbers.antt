@@ -4,7 +4,7 @@
 --   pick b x y     x where b holds, else y
 --   eq_z a b        the numbers a and b are equal
 --   limit          the coordinate limit, 2^30
---   inRange L z    z is from -L to L
+--   in_range L z   z is from -L to L
 --   zero_to n z     z is from 0 to n
 --   step L n       the number that lies n steps above -L
 --

@@ -1,3 +1,3 @@
 #![tactic(auto)]
 
-// Definitions and no program: what document 01 means, in specs/.
+// Definitions and no program: what document 01 means, in specs/; spot checks of them in proofs/.

@@ -5,7 +5,7 @@
 --   unsigned v                the signed number that is stored as v, where v is not 1
 --   difference_inj            differences from one number tell numbers apart
 --   difference_back           p and a difference from it
---   within_range                  `inRange` against the size
+--   within_range                  `in_range` against the size
 --   signed_size, add_size, difference_size   how large what is stored can be
 use Rattle.std.specs.Prelude.{◌≡◌, refl, Bool, true, false, ℕ, zero, suc, ◌+◌, ◌-◌, ◌*◌, ◌/◌, ◌%◌, ◌≤◌, eqb, ltb, ℤ, pos, negsuc, nat_abs, neg_ℤ, ◌+ℤ◌, ◌-ℤ◌}
 use Rattle.std.proofs.Common.{sym, ap, ◌∙◌, arith, eq-eqb, ne_eqb, ltb-true, ltb-false, leb-true}
