@@ -1,6 +1,6 @@
 /* Laukavesp: the edges and the area of an expression over axis-parallel masks, mask files, and drawn numbers.
  *
- * For C99 and later, and for C++. Link target/staticlib/libexports.a, which `rt staticlib exports` proves and writes for x86-64 Linux.
+ * For C99 and later, and for C++. Link target/staticlib/libexports.a, which `./archive` proves and writes for x86-64 Linux.
  *
  * Every input has an answer: no number and no text that is handed over breaks a call, and none takes or keeps memory. The caller answers for
  * its pointers alone:
