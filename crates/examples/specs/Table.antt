@@ -1,38 +1,21 @@
--- The checked examples of document 01 that are proved, 1 to 10: one table, one meaning of right, one theorem.
+-- The checked examples of document 01 that are proved, 1 to 10: one table, one meaning of right. The one theorem is in proofs/Table.antt.
 --
 --   Example    what an example says: a run with its records and area; a call that is accepted; a refusal; how a number is stored; what a file
 --              is answered; what a record is drawn as
 --   Right      what it means that an example is right, over the definitions
 --   table      the examples, to the letter; where one names no edge list it takes A and B, where it names no expression `a`
---   checked    EVERY EXAMPLE IS RIGHT
-use Rattle.std.specs.Prelude.{◌≡◌, refl, List, [], ◌∷◌, ◌++◌, ℕ, ◌*◌, ◌≤◌, ℤ, pos, length, drop}
-use Rattle.std.proofs.Common.{arith}
+use Rattle.std.specs.Prelude.{◌≡◌, List, [], ◌∷◌, ◌++◌, ℕ, ◌*◌, ◌≤◌, ℤ, pos, length, drop}
 use Rattle.std.specs.Float.{binary32}
 use Rattle.std.specs.Float.Ieee.{to_bits}
-use Rattle.meaning.specs.Numbers.{eq_z, step}
 use Rattle.meaning.specs.Answers.{Answer, accepted, not_closed, not_in_grammar, holds_on_nothing, ends_inside, bad_number}
-use Rattle.meaning.specs.Edges.{edges_of, covers, number, on, west, east, sound_edge, flat}
-use Rattle.meaning.specs.Expression.{bytes, eval}
-use Rattle.meaning.specs.Records.{numbers_of}
+use Rattle.meaning.specs.Expression.{bytes}
 use Rattle.meaning.specs.MaskFile.{spelt, five, signed}
 use Rattle.meaning.specs.Faults.{Read}
 use Rattle.meaning.specs.Calls.{outcome, Runs, Areas}
-use Rattle.basic_laws.specs.Tests.{spans}
-use Rattle.basic_laws.specs.Lists.{All, all_by}
-use Rattle.basic_laws.specs.Steps.{lift}
-use Rattle.basic_laws.specs.Sound.{lifted}
-use Rattle.grid_laws.specs.Plane.{goes_west, goes_east, up_to_n, wests_n, easts_n, covers_n, inside_n, level_n, upright_n, line_at, line_over, each_of, kind_at, result_at, xs_of, ys_of, insert_if, insert, sorted}
-use Rattle.grid_laws.specs.ClosedTest.{closed_test, closed_over, layers_of}
-use Rattle.basic_laws.specs.Sums.{sum_of}
-use Rattle.expression_laws.specs.Reader.{letter_at, read, reads}
-use Rattle.expression_laws.specs.Judging.{answer_to}
-use Rattle.mask_laws.specs.Examples.{stored_100, stored_limit, bytes_80_00, file_01, empty_file}
 use Rattle.drawing.specs.Drawing.{Drawing}
 use Rattle.drawing.specs.declared.Drawn.{Drawn}
 use Rattle.drawing.specs.declared.Drawn.TheVariants.{Level, Upright, Refused}
-use Rattle.drawing.proofs.Examples.{carried, example_10}
-use Rattle.examples.specs.Shown.{fit, shown, levels}
-use Rattle.examples.specs.Runs.{shaped, run_is, area_is, refusal_is, open_is}
+use Rattle.drawing.proofs.Examples.{carried}
 
 pub data Example : Type 0 where
   -- the edge list and the text give these records, as numbers, so many of them, and this area
@@ -61,7 +44,7 @@ Right (stores z bs) = spelt five (signed z) ≡ bs
 Right (reads_as f a) = (out : List ℤ) → Read f out (a, out)
 Right (draws zoom kind place from to r bits) = Drawing (pos 0) (pos 0) zoom kind place from to r × (place_bits r ≡ bits)
 
-abbrev edge : ℕ → ℕ → ℕ → ℕ → List ℤ
+abbrev pub edge : ℕ → ℕ → ℕ → ℕ → List ℤ
 edge l y f t = pos l ∷ pos y ∷ pos f ∷ pos t ∷ []
 
 -- "A is (0,0,10,0), (0,5,0,10); B is (1,2,14,6), (1,8,6,14)."
@@ -71,7 +54,7 @@ A = edge 0 0 10 0 ++ edge 0 5 0 10
 abbrev pub B : List ℤ
 B = edge 1 2 14 6 ++ edge 1 8 6 14
 
-abbrev both : List ℤ
+abbrev pub both : List ℤ
 both = A ++ B
 
 abbrev and_records : List ℤ
@@ -117,31 +100,3 @@ table =
     -- 10
     ∷ draws (pos 1) (pos 0) (pos 5) (pos 6) (pos 10) (Level carried) 0x4020_0000
     ∷ []
-
-pub checked : All Right table
-unfolding bytes fit sound_edge flat shaped edges_of closed_test closed_over layers_of all_by xs_of ys_of lifted lift number goes_west goes_east spans on west east shown levels numbers_of step up_to_n wests_n easts_n covers_n covers inside_n level_n upright_n line_at line_over each_of kind_at result_at insert_if insert sorted eq_z sum_of answer_to reads read letter_at eval
-checked = (
-  (run_is both refl refl (bytes "a*b") _ refl refl refl _ _ refl refl, area_is both refl refl (bytes "a*b") _ refl refl refl _ refl),
-  (
-    (run_is both refl refl (bytes "a+b") _ refl refl refl _ _ refl refl, area_is both refl refl (bytes "a+b") _ refl refl refl _ refl),
-    (
-      (run_is both refl refl (bytes "a^b") _ refl refl refl _ _ refl refl, area_is both refl refl (bytes "a^b") _ refl refl refl _ refl),
-      (
-        (run_is [] refl refl (bytes "a") _ refl refl refl _ _ refl refl, area_is [] refl refl (bytes "a") _ refl refl refl _ refl),
-        (
-          refusal_is both refl refl (bytes "!a") _ refl (λ z. omega arith),
-          (
-            refusal_is both refl refl (bytes "a+!a") _ refl (λ z. omega arith),
-            (
-              (36, area_is both refl refl (bytes "!a*b") _ refl refl refl 36 refl),
-              (
-                refusal_is both refl refl (bytes "()") _ refl (λ z. omega arith),
-                (open_is (edge 0 0 10 0) refl refl 0 (pos 0) (λ z. omega arith) (bytes "a"), (stored_100, (stored_limit, (bytes_80_00, (file_01, (empty_file, (example_10, tt))))))),
-              ),
-            ),
-          ),
-        ),
-      ),
-    ),
-  ),
-)

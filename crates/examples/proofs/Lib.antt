@@ -1,0 +1,3 @@
+-- The checked examples of document 01, proved.
+pub mod Table
+pub mod Printing
