@@ -6,7 +6,7 @@ ghost use Rattle.meaning.specs.Answers.{accepted, answer};
 ghost use Rattle.answers.specs.Said.{said};
 
 #[repr(C)]
-#[derive(Drop)]
+#[derive(Clone, Copy)]
 pub struct Answer {
     pub number: u64,
     pub value: u64,

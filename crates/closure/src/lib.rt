@@ -9,7 +9,7 @@ ghost use Rattle.closure.specs.Testing.{edges_by, EvenFrom, RowsOk, EvenRows, Ev
 use scanline::Scanline;
 
 // Open: the least rank at which some layer has not as many edges that begin as that end.
-#[derive(Drop)]
+#[derive(Clone, Copy)]
 pub enum Closure {
     Closed,
     Open(usize),

@@ -11,7 +11,7 @@ ghost use Rattle.crossings.specs.Swept.{least_of, most_of, PassOk, Passing, Adva
 const MANY: usize = 32;
 
 // The strips from lo on, below hi, were touched; next is the first edge of another place.
-#[derive(Drop)]
+#[derive(Clone, Copy)]
 pub struct Touched {
     pub next: usize,
     pub lo: usize,
@@ -19,7 +19,7 @@ pub struct Touched {
 }
 
 // The ends of an edge, the lesser first.
-#[derive(Drop)]
+#[derive(Clone, Copy)]
 pub struct Reach {
     pub lo: usize,
     pub hi: usize,

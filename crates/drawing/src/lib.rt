@@ -7,7 +7,7 @@ ghost use Rattle.meaning.specs.Drawn.{view_in_range, record_in_range, farthest, 
 ghost use Rattle.drawing.specs.Drawing.{ExactFloats, ByOffsets, Drawing};
 
 // What a drawn edge carries: its place and its two ends.
-#[derive(Drop)]
+#[derive(Clone, Copy)]
 pub struct Floats {
     pub place: f32,
     pub from: f32,
@@ -15,7 +15,7 @@ pub struct Floats {
 }
 
 // A level edge, an upright one, or a refusal's number.
-#[derive(Drop)]
+#[derive(Clone, Copy)]
 pub enum Drawn {
     Level(Floats),
     Upright(Floats),

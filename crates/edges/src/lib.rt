@@ -10,7 +10,7 @@ ghost use Rattle.edges.specs.Answering.{answer_of, list_rows};
 const MOST: usize = 4096;
 
 // What judging the records of an edge list finds: nothing, or the first refusal of the table with its record.
-#[derive(Drop)]
+#[derive(Clone, Copy)]
 pub enum Judged {
     Fine,
     NotFours,

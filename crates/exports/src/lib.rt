@@ -48,7 +48,7 @@ pub fn laukavesp_edges(rings: &[i32], edges: &mut [i32]) -> Answer
 
 // A drawn edge: the answer's number, 0 for level or 1 for upright, its place and its two ends. On a refusal all but the number are zero.
 #[repr(C)]
-#[derive(Drop)]
+#[derive(Clone, Copy)]
 pub struct DrawnNumbers {
     pub number: u32,
     pub upright: u32,

@@ -50,7 +50,7 @@ fn too_deep(text: &[u8]) -> bool
 }
 
 // The answer to a text as an expression.
-#[derive(Drop)]
+#[derive(Clone, Copy)]
 pub enum Verdict {
     Accepted,
     BadLength,

@@ -10,7 +10,7 @@ ghost use Rattle.front.specs.Ranking.{RankOk, Ranking};
 use closure::Closure;
 
 // Balanced: the list is closed, and how many distinct x it has. Unbalanced: it is not, and the rank of the x at which it first is not, from the west.
-#[derive(Drop)]
+#[derive(Clone, Copy)]
 pub enum Ranked {
     Balanced(usize),
     Unbalanced(usize),

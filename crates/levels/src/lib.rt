@@ -9,7 +9,7 @@ ghost use Rattle.horizontal.specs.Words.{word_of};
 ghost use Rattle.levels.specs.Line.{line_of, LineOk, LineRead};
 
 // How many records there are then, and the sum with their weights.
-#[derive(Drop)]
+#[derive(Clone, Copy)]
 pub struct Reading {
     pub count: usize,
     pub sum: u64,

@@ -17,7 +17,7 @@ pub const GROUPS: u64 = 5;
 pub const EDITION: u64 = 1;
 
 // What every reader answers: a value with the place after it, or a refusal's number and value.
-#[derive(Drop)]
+#[derive(Clone, Copy)]
 pub enum Reading {
     Value(u64, usize),
     Refused(u64, usize),

@@ -11,7 +11,7 @@ ghost use Rattle.readers.specs.Pieces.{piece_of, reads_as, Whole};
 pub type Handed = u8;
 
 // What reading a piece gives: its value with the place after it, or a refusal.
-#[derive(Drop)]
+#[derive(Clone, Copy)]
 pub enum Piece {
     Got(bool, usize),
     Refused,

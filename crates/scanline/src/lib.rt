@@ -5,7 +5,7 @@ ghost use Rattle.std.specs.Prelude.{◌≡◌, ◌<◌, get_or};
 ghost use Rattle.scanline.specs.Handed.{crossed_by, fresh_counts, fresh_line, past};
 
 // The eight counts: of each layer, the west edges less the east edges that were passed.
-#[derive(Drop)]
+#[derive(Clone, Copy)]
 pub struct Counts {
     pub raised: [u16; Scanline::LAYERS],
 }
@@ -34,7 +34,7 @@ impl Counts {
 }
 
 // A scanline on its way: how many crossings it passed, and the counts there.
-#[derive(Drop)]
+#[derive(Clone, Copy)]
 pub struct Scanline {
     pub passed: u16,
     pub counts: Counts,

@@ -5,7 +5,7 @@ ghost use Rattle.std.specs.Prelude.{◌≡◌, true, false, not, ◌+◌, ◌≤
 ghost use Rattle.stretches.specs.Stretches.{StripsIn, RowsIn, Alike, Skipped, Filled, NextIs};
 
 // The strips from `from` on, below `to`: all came inside, or all went out.
-#[derive(Drop)]
+#[derive(Clone, Copy)]
 pub struct Stretch {
     pub from: usize,
     pub to: usize,

@@ -6,7 +6,7 @@ ghost use Rattle.sweep.specs.Filling.{FillOk, Fills};
 
 // The horizontals of the lines from one place on, as far as a whole line has room: the first word of the place after them, how many they are, and the
 // sum of their weights.
-#[derive(Drop)]
+#[derive(Clone, Copy)]
 pub struct Filled {
     pub next: usize,
     pub count: usize,

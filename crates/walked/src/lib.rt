@@ -10,7 +10,7 @@ use answers::Answer;
 use writing::Found;
 
 // What a run answers, and the inside cells: 0 where one of the refusals 1 to 9 applies.
-#[derive(Drop)]
+#[derive(Clone, Copy)]
 pub struct Walked {
     pub answer: Answer,
     pub cells: u64,

@@ -6,7 +6,7 @@ ghost use Rattle.sweep_laws.specs.Lines.{lines_to};
 ghost use Rattle.writing.specs.Writing.{MeasureOk, Measures, AgainOk, written, WriteOk, Wrote};
 
 // How many records there are, whether the buffer has room for them, and the inside cells.
-#[derive(Drop)]
+#[derive(Clone, Copy)]
 pub struct Found {
     pub records: u64,
     pub fits: bool,
@@ -14,7 +14,7 @@ pub struct Found {
 }
 
 // How many horizontals there are, how many of them stand in the working array, and the sum of their weights.
-#[derive(Drop)]
+#[derive(Clone, Copy)]
 pub struct Measured {
     pub all: usize,
     pub last: usize,
