@@ -14,7 +14,7 @@ def functions(crate):
     for file in sorted((crate / "src").glob("*.rt")):
         kind = ""
         for line in file.read_text().split("\n"):
-            found = re.match(r"impl (\w+)", line)
+            found = re.match(r"impl(?:<[^>]*>)? (\w+)", line)
             kind = found.group(1) + "::" if found else "" if line.startswith("}") else kind
             found = re.match(r"\s*pub (?:extern \"C\" )?fn (\w+)", line)
             if found:

@@ -1,2 +1,3 @@
 -- The answer of a call, as the paper has it.
 pub mod Said
+pub mod Told

@@ -2,11 +2,11 @@
 --
 --   number_two               tests that agree place by place count the same
 --   from_ranks, to_ranks     as many edges begin (end) at a rank as at the x of that rank
---   steps_closed             THE EDGES ARE CLOSED, where the answer is Closed
---   steps_open               where it is Open, THE X OF THAT RANK IS THE LEAST COLUMN at which some layer is not balanced
+--   steps_closed             THE EDGES ARE CLOSED, where the answer is Ok
+--   steps_open               where it is an Err, THE X OF THAT RANK IS THE LEAST COLUMN at which some layer is not balanced
 --   test_ready               an edge list in steps and its ranks can be tested
 --   list_closed, list_least, list_open   so with an edge list: it is closed; the least column; it is not closed
-use Rattle.std.specs.Prelude.{◌≡◌, refl, Bool, true, false, ◌&&◌, List, [], ◌∷◌, map, ℕ, suc, ◌+◌, ◌*◌, ◌<◌, ◌≤◌, eqb, ℤ, length, get_or}
+use Rattle.std.specs.Prelude.{◌≡◌, refl, Bool, true, false, ◌&&◌, List, [], ◌∷◌, map, ℕ, suc, ◌+◌, ◌*◌, ◌<◌, ◌≤◌, eqb, ℤ, length, get_or, Ok, Err}
 use Rattle.std.proofs.Common.{sym, ap, ap₂, ◌∙◌, subst, arith, ne_eqb}
 use Rattle.std.proofs.Math.Decide.{dec_lt}
 use Rattle.std.proofs.lemmas.List.{length-map}
@@ -24,7 +24,6 @@ use Rattle.axis.specs.Axes.{Ranks}
 use Rattle.lifting.specs.InSteps.{InSteps, no_edge}
 use Rattle.lifting.specs.Columns.{xs_long, xs_pairs, layers_low, steps_long}
 use Rattle.marks.specs.Marks.{from_at, to_at}
-use Rattle.closure.specs.declared.Closure.TheVariants.{Closed, Open}
 use Rattle.closure.specs.Testing.{edges_by, EvenAt, Answers, TestOk}
 use Rattle.closure.specs.TestLaws.{by_long, by_at, past_even}
 use Rattle.closure.specs.Balance.{column_even, column_uneven, even_closed, OpenAt, open_not}
@@ -152,10 +151,10 @@ module _ (es : List (Edge ℕ)) (layers ends values : List ℕ) (r : ℕ) (layer
         for_layer (yes g) = known g (has v (xs_of es)) refl
         for_layer (no g) = none_even es l v (other_layer es l v low_layer (omega arith))
 
-    pub steps_closed : Answers (edges_by layers ends) Closed → ClosedN es
+    pub steps_closed : Answers (edges_by layers ends) (Ok tt) → ClosedN es
     steps_closed A = even_closed es (λ l v. at_x v (λ k x hk hx e. A k x hk) l)
 
-    module _ (ranks : (p : ℕ) → p < length ends → get_or ends p 0 < r) (x : ℕ) (A : Answers (edges_by layers ends) (Open x)) where
+    module _ (ranks : (p : ℕ) → p < length ends → get_or ends p 0 < r) (x : ℕ) (A : Answers (edges_by layers ends) (Err (record { rank = x }))) where
       pub open_low : x < r
       open_low = go (dec_lt x r)
         where
@@ -220,11 +219,11 @@ module _ (ns : List ℤ) (S : SoundList 7 limit ns) (layers ys xs values ends : 
     fresh = fresh;
   }
 
-  pub list_closed : Answers (edges_by layers ends) Closed → ClosedList (edges_of ns)
+  pub list_closed : Answers (edges_by layers ends) (Ok tt) → ClosedList (edges_of ns)
   list_closed A = view_closed 7 limit (edges_of ns) S.sound (steps_closed steps layers ends values r I.layers_are two_ends ranked low_layers A)
 
-  pub list_least : (x : ℕ) → Answers (edges_by layers ends) (Open x) → OpenAt steps (get_or values x 0)
+  pub list_least : (x : ℕ) → Answers (edges_by layers ends) (Err (record { rank = x })) → OpenAt steps (get_or values x 0)
   list_least x A = steps_open steps layers ends values r I.layers_are two_ends ranked low_layers low_ranks x A
 
-  pub list_open : (x : ℕ) → Answers (edges_by layers ends) (Open x) → ClosedList (edges_of ns) → ⊥
+  pub list_open : (x : ℕ) → Answers (edges_by layers ends) (Err (record { rank = x })) → ClosedList (edges_of ns) → ⊥
   list_open x A h = open_not (list_least x A) (closed_view 7 limit (edges_of ns) S.sound h)

@@ -3,14 +3,13 @@
 --   one_marked     marks of the same edges are equal
 --   marked_even    marks of edges that are closed by ends are fresh
 --   one_tested     ANSWERS THAT MEET THE CONTRACT OF `test` ARE EQUAL, and so are the marks
-use Rattle.std.specs.Prelude.{◌≡◌, refl, List, ℕ, zero, suc, ◌+◌, ◌*◌, ◌/◌, ◌%◌, ◌<◌, length, get_or}
+use Rattle.std.specs.Prelude.{◌≡◌, refl, List, ℕ, zero, suc, ◌+◌, ◌*◌, ◌/◌, ◌%◌, ◌<◌, length, get_or, Result, Ok, Err}
 use Rattle.std.proofs.Common.{sym, ap, ◌∙◌, div-add-mod', mod-lt, div-lt_iff_lt-mul, arith, ext_get_or}
 use Rattle.std.proofs.Math.Decide.{dec_lt}
 use Rattle.meaning.specs.Edges.{Edge}
 use Rattle.strips.specs.Rows.{row_at, layer_fits}
 use Rattle.marks.specs.Marks.{Marked}
-use Rattle.closure.specs.declared.Closure.{Closure}
-use Rattle.closure.specs.declared.Closure.TheVariants.{Closed, Open}
+use Rattle.closure.specs.declared.Open.{Open}
 use Rattle.closure.specs.Testing.{edges_by, Answers, TestOk, Tested}
 use Rattle.closure.specs.TestLaws.{even_row}
 
@@ -29,7 +28,7 @@ rows_same (suc m) c d hc hd same = ext_get_or 0 c d (hc ∙ sym hd) at
 pub one_marked : {n : ℕ} {es : List (Edge ℕ)} {c d : List ℕ} → Marked n es c → Marked n es d → c ≡ d
 one_marked {n} {es} {c} {d} M N = rows_same n c d M.long N.long (λ l r hl hr. omega (arith, M.marks l r hl hr, N.marks l r hl hr))
 
-pub marked_even : {n nx : ℕ} {layers ends c₀ c : List ℕ} → TestOk layers ends n nx c₀ → Tested n layers ends c Closed → c ≡ c₀
+pub marked_even : {n nx : ℕ} {layers ends c₀ c : List ℕ} → TestOk layers ends n nx c₀ → Tested n layers ends c (Ok tt) → c ≡ c₀
 marked_even {n} {nx} {layers} {ends} {c₀} {c} T R =
     rows_same n c c₀ R.marked.long T.long
     (λ l r hl hr. even_row R.marked l r hl hr (R.answer l r hl) ∙ sym (T.fresh (l * n + r) (inside l r hl hr)))
@@ -37,16 +36,16 @@ marked_even {n} {nx} {layers} {ends} {c₀} {c} T R =
     inside : (l r : ℕ) → l < 8 → r < n → l * n + r < length c₀
     inside l r hl hr = omega (arith, T.long, layer_fits n l hl)
 
-one_answer : (es : List (Edge ℕ)) (r s : Closure) → Answers es r → Answers es s → r ≡ s
-one_answer es Closed Closed a b = refl
-one_answer es Closed (Open y) a b = absurd (b.uneven (a b.layer y b.eight))
-one_answer es (Open x) Closed a b = absurd (a.uneven (b a.layer x a.eight))
-one_answer es (Open x) (Open y) a b = ap Open (go (dec_lt x y) (dec_lt y x))
+one_answer : (es : List (Edge ℕ)) (r s : Result (Unit {0}) Open) → Answers es r → Answers es s → r ≡ s
+one_answer es (Ok _) (Ok _) a b = refl
+one_answer es (Ok _) (Err least) a b = absurd (b.uneven (a b.layer least.rank b.eight))
+one_answer es (Err least) (Ok _) a b = absurd (a.uneven (b a.layer least.rank a.eight))
+one_answer es (Err least) (Err other) a b = ap (λ (x : ℕ). Err (record { rank = x })) (go (dec_lt least.rank other.rank) (dec_lt other.rank least.rank))
   where
-    go : Dec (x < y) → Dec (y < x) → x ≡ y
-    go (yes h) v = absurd (a.uneven (b.before a.layer x a.eight h))
-    go (no h) (yes g) = absurd (b.uneven (a.before b.layer y b.eight g))
+    go : Dec (least.rank < other.rank) → Dec (other.rank < least.rank) → least.rank ≡ other.rank
+    go (yes h) v = absurd (a.uneven (b.before a.layer least.rank a.eight h))
+    go (no h) (yes g) = absurd (b.uneven (a.before b.layer other.rank b.eight g))
     go (no h) (no g) = omega arith
 
-pub one_tested : {n : ℕ} {layers ends c d : List ℕ} (r s : Closure) → Tested n layers ends c r → Tested n layers ends d s → (r ≡ s) × (c ≡ d)
+pub one_tested : {n : ℕ} {layers ends c d : List ℕ} (r s : Result (Unit {0}) Open) → Tested n layers ends c r → Tested n layers ends d s → (r ≡ s) × (c ≡ d)
 one_tested {n} {layers} {ends} {c} {d} r s R S = (one_answer (edges_by layers ends) r s R.answer S.answer, one_marked R.marked S.marked)

@@ -3,12 +3,11 @@
 --   by_long, by_at, by_more      the edges of layers and ends, one after the other
 --   past_even                    at ranks that no end has, nothing begins or ends
 --   MarkedTo, mark_start, mark_room, mark_more, mark_end   the loop of `mark_all`: the first k edges are marked
---   even_more, layer_more, told_more, rows_more   one mark, one layer, one layer at a rank, one rank more
---   layer_rows, layer_small      where the rows of a layer stand
---   told_yes, told_no            what `even_at` said
+--   layer_more                   one layer more
+--   layer_rows                   where the rows of a layer stand
 --   row_even, even_row, rows_answer, rows_open, found_tested   what rows of marks say of the edges
 --   test_up                      ranks below nx are below n
-use Rattle.std.specs.Prelude.{◌≡◌, refl, Bool, true, false, List, [], ◌∷◌, ℕ, zero, suc, ◌+◌, ◌*◌, ◌<◌, ◌≤◌, eqb, length, get_or, take}
+use Rattle.std.specs.Prelude.{◌≡◌, refl, Bool, true, false, List, [], ◌∷◌, ℕ, zero, suc, ◌+◌, ◌*◌, ◌<◌, ◌≤◌, eqb, length, get_or, take, Result, Ok, Err}
 use Rattle.std.proofs.Common.{sym, ap, ap₂, ◌∙◌, subst, true≢false, ⊎_elim, add-one, eq-or-lt_of_le, arith, take-suc, take_all, length-take-le, ne_eqb}
 use Rattle.std.proofs.lemmas.Bool.{false≢true}
 use Rattle.std.proofs.Math.Decide.{dec_lt}
@@ -20,8 +19,7 @@ use Rattle.strips.specs.Rows.{row_at, layer_fits}
 use Rattle.marks.specs.Marks.{from_at, to_at, Marked, marked_by}
 use Rattle.marks.specs.MarkLaws.{most_all}
 use Rattle.marks.specs.MarkMore.{marked_more}
-use Rattle.closure.specs.declared.Closure.{Closure}
-use Rattle.closure.specs.declared.Closure.TheVariants.{Closed, Open}
+use Rattle.closure.specs.declared.Open.{Open}
 use Rattle.closure.specs.Testing.{edges_by, EvenAt, LeastUneven, TestOk, EvenFrom, RowsOk, EvenRows, UnevenRow, EvenTold, FoundOpen, Found, Tested}
 
 abbrev none : Edge ℕ
@@ -144,16 +142,10 @@ module _ {layers ends : List ℕ} {n : ℕ} {c₀ : List ℕ} (T : TestOk layers
   pub mark_end : {c : List ℕ} {k : ℕ} → MarkedTo layers ends n c k → length layers ≤ k → Marked n (edges_by layers ends) c
   mark_end {c} {k} M h = subst (λ l. Marked n l c) (take_all k es (omega (arith, by_long layers ends T.two))) M.marked
 
--- ---- one mark, one layer, one rank more
-
-pub even_more : (c : List ℕ) (a i x d : ℕ) → (x ≡ 0 → EvenFrom c a i) → (d ≡ 0 → get_or c i 0 ≡ 8192) → x + d ≡ 0 → EvenFrom c a (i + 1)
-even_more c a i x d E h z j g l = ⊎_elim (λ e. rw e (h (omega arith))) (λ u. E (omega arith) j g u) (eq-or-lt_of_le {n = j} {m = i} (omega arith))
+-- ---- one layer more
 
 pub layer_rows : {n nx : ℕ} {c : List ℕ} → RowsOk n nx c → (l : ℕ) → l < 8 → l * n + nx ≤ length c
 layer_rows {n} {nx} {c} R l h = omega (arith, R.long, R.within, layer_fits n l h)
-
-pub layer_small : {n nx : ℕ} {c : List ℕ} → RowsOk n nx c → (l : ℕ) → l < 8 → l * n + n ≤ 65536
-layer_small {n} {nx} {c} R l h = omega (arith, R.rows_few, layer_fits n l h)
 
 -- of the layers below l, all marks below nx are zero
 abbrev pub EvenTo : ℕ → ℕ → List ℕ → ℕ → Type 0
@@ -161,6 +153,12 @@ EvenTo n nx c l = (j x : ℕ) → j < l → x < nx → row_at n c j x ≡ 8192
 
 pub layer_more : (n nx : ℕ) (c : List ℕ) (l : ℕ) → EvenTo n nx c l → EvenFrom c (l * n) (l * n + nx) → EvenTo n nx c (l + 1)
 layer_more n nx c l E F j x h u = ⊎_elim (λ e. rw e (F (l * n + x) (omega arith) (omega arith))) (λ g. E j x g u) (eq-or-lt_of_le {n = j} {m = l} (omega arith))
+
+pub even_more : (c : List ℕ) (a i x d : ℕ) → (x ≡ 0 → EvenFrom c a i) → (d ≡ 0 → get_or c i 0 ≡ 8192) → x + d ≡ 0 → EvenFrom c a (i + 1)
+even_more c a i x d E h z j g l = ⊎_elim (λ e. rw e (h (omega arith))) (λ u. E (omega arith) j g u) (eq-or-lt_of_le {n = j} {m = i} (omega arith))
+
+pub layer_small : {n nx : ℕ} {c : List ℕ} → RowsOk n nx c → (l : ℕ) → l < 8 → l * n + n ≤ 65536
+layer_small {n} {nx} {c} R l h = omega (arith, R.rows_few, layer_fits n l h)
 
 pub told_more : (n : ℕ) (c : List ℕ) (x l : ℕ) → ((j : ℕ) → j < l → row_at n c j x ≡ 8192) → row_at n c l x ≡ 8192 → (j : ℕ) → j < l + 1 → row_at n c j x ≡ 8192
 told_more n c x l E e j h = ⊎_elim (λ q. rw q e) (λ g. E j g) (eq-or-lt_of_le {n = j} {m = l} (omega arith))
@@ -201,6 +199,6 @@ module _ {layers ends : List ℕ} {n nx : ℕ} {c₀ c : List ℕ} (T : TestOk l
     before = λ l y hl hy. row_even M l y hl (omega (arith, F.low, T.within)) (F.before l y hl hy);
   }
 
-  pub found_tested : (r : Closure) → Found n nx c r → Tested n layers ends c r
-  found_tested Closed E = record { marked = M; answer = rows_answer E }
-  found_tested (Open x) F = record { marked = M; answer = rows_open F }
+  pub found_tested : (r : Result (Unit {0}) Open) → Found n nx c r → Tested n layers ends c r
+  found_tested (Ok _) E = record { marked = M; answer = rows_answer E }
+  found_tested (Err least) F = record { marked = M; answer = rows_open F }

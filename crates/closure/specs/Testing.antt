@@ -10,12 +10,11 @@
 --   EvenRows n nx c           the marks of all layers at the ranks below nx are zero
 --   UnevenRow n c x           the mark of some layer at rank x is not
 --   EvenTold, Found           what `even_at` and `search` find in the rows
-use Rattle.std.specs.Prelude.{◌≡◌, Bool, true, false, List, [], ◌∷◌, ℕ, ◌+◌, ◌*◌, ◌<◌, ◌≤◌, length, get_or}
+use Rattle.std.specs.Prelude.{◌≡◌, Bool, true, false, List, [], ◌∷◌, ℕ, ◌+◌, ◌*◌, ◌<◌, ◌≤◌, length, get_or, Result, Ok, Err}
 use Rattle.meaning.specs.Edges.{Edge, edge, number}
 use Rattle.strips.specs.Rows.{row_at}
 use Rattle.marks.specs.Marks.{from_at, to_at, Marked}
-use Rattle.closure.specs.declared.Closure.{Closure}
-use Rattle.closure.specs.declared.Closure.TheVariants.{Closed, Open}
+use Rattle.closure.specs.declared.Open.{Open}
 
 -- ---- edges
 
@@ -34,9 +33,9 @@ pub record LeastUneven (es : List (Edge ℕ)) (x : ℕ) : Type 0 where
   pub uneven : EvenAt es layer x → ⊥
   pub before : (l y : ℕ) → l < 8 → y < x → EvenAt es l y
 
-abbrev pub Answers : List (Edge ℕ) → Closure → Type 0
-Answers es Closed = (l x : ℕ) → l < 8 → EvenAt es l x
-Answers es (Open x) = LeastUneven es x
+abbrev pub Answers : List (Edge ℕ) → Result (Unit {0}) Open → Type 0
+Answers es (Ok _) = (l x : ℕ) → l < 8 → EvenAt es l x
+Answers es (Err least) = LeastUneven es least.rank
 
 pub record TestOk (layers ends : List ℕ) (n nx : ℕ) (c : List ℕ) : Type 0 where
   pub two : length ends ≡ length layers + length layers
@@ -48,7 +47,7 @@ pub record TestOk (layers ends : List ℕ) (n nx : ℕ) (c : List ℕ) : Type 0 
   pub long : length c ≡ 8 * n
   pub fresh : (p : ℕ) → p < length c → get_or c p 0 ≡ 8192
 
-pub record Tested (n : ℕ) (layers ends c : List ℕ) (r : Closure) : Type 0 where
+pub record Tested (n : ℕ) (layers ends c : List ℕ) (r : Result (Unit {0}) Open) : Type 0 where
   pub marked : Marked n (edges_by layers ends) c
   pub answer : Answers (edges_by layers ends) r
 
@@ -79,6 +78,6 @@ pub record FoundOpen (n nx : ℕ) (c : List ℕ) (x : ℕ) : Type 0 where
   pub row : UnevenRow n c x
   pub before : EvenRows n x c
 
-abbrev pub Found : ℕ → ℕ → List ℕ → Closure → Type 0
-Found n nx c Closed = EvenRows n nx c
-Found n nx c (Open x) = FoundOpen n nx c x
+abbrev pub Found : ℕ → ℕ → List ℕ → Result (Unit {0}) Open → Type 0
+Found n nx c (Ok _) = EvenRows n nx c
+Found n nx c (Err least) = FoundOpen n nx c least.rank

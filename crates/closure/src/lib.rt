@@ -2,63 +2,38 @@
 // Scanline::ZERO.
 #![tactic(auto)]
 
-ghost use Rattle.std.specs.Prelude.{◌≡◌, true, ◌+◌, ◌<◌, ◌≤◌, length};
+ghost use Rattle.std.specs.Prelude.{◌≡◌, true, ◌<◌};
 ghost use Rattle.marks.specs.Marks.{Marked};
-ghost use Rattle.closure.specs.Testing.{edges_by, EvenFrom, RowsOk, EvenRows, EvenTold, Found, TestOk, Tested};
+ghost use Rattle.answers.specs.declared.Refusal.TheVariants.{NotClosed};
+ghost use Rattle.closure.specs.Testing.{edges_by, RowsOk, EvenRows, EvenTold, Found, TestOk, Tested};
 
+use answers::Refusal;
 use scanline::Scanline;
 
-// Open: the least rank at which some layer has not as many edges that begin as that end.
-#[derive(Clone, Copy)]
-pub enum Closure {
-    Closed,
-    Open(usize),
+// Not closed: the least rank at which some layer has not as many edges that begin as that end.
+#[derive(Clone, Copy, Debug, PartialEq, Eq)]
+pub struct Open {
+    pub rank: usize,
 }
 
-fn wide(x: u8) -> usize
-    ensures { result ≡ x }
-{
-    x as usize
+impl From<Open> for Refusal {
+    ghost from_gives = { λ least refusal. refusal ≡ NotClosed };
+
+    fn from(_: Open) -> Refusal {
+        Refusal::NotClosed
+    }
 }
 
-fn rank(x: u16) -> usize
-    ensures { result ≡ x }
-{
-    x as usize
-}
-
+// The marks of all edges. Layers and ends are columns, and no list of edges: the sorting and the sweep go along one of them, in vector code.
 fn mark_all(layers: &[u8], ends: &[u16], n: usize, c: &mut [u16])
     requires { TestOk layers.now ends.now n n c.old }
     ensures { Marked n (edges_by layers.now ends.now) c.new }
 {
-    let mut k = 0;
-    while k < layers.len() {
-        let layer = wide(layers[k]);
-        let from = rank(ends[k + k]);
-        let to = rank(ends[k + k + 1]);
-        marks::mark(c, n, layer, from, to);
-        k += 1;
+    for (k, layer) in layers.iter().enumerate() {
+        let from = usize::from(ends[k + k]);
+        let to = usize::from(ends[k + k + 1]);
+        marks::mark(c, n, usize::from(*layer), from, to);
     }
-}
-
-fn differs(mark: u16) -> u16
-    ensures { (result ≤ 1) × (result ≡ 0 → mark ≡ 8192) }
-{
-    if mark == Scanline::ZERO { 0 } else { 1 }
-}
-
-// How many of the marks from a on, below b, are not zero: a count, so that many are looked at at once.
-fn uneven(c: &[u16], a: usize, b: usize) -> u16
-    requires { (a ≤ b) × (b ≤ length c.now) × (b ≤ a + 8192) }
-    ensures { result ≡ 0 → EvenFrom c.now a b }
-{
-    let mut found = 0;
-    let mut i = a;
-    while i < b {
-        found += differs(c[i]);
-        i += 1;
-    }
-    found
 }
 
 // Whether all marks of the ranks below nx are zero.
@@ -66,13 +41,11 @@ fn all_even(c: &[u16], n: usize, nx: usize) -> bool
     requires { RowsOk n nx c.now }
     ensures { result ≡ true → EvenRows n nx c.now }
 {
-    let mut layer = 0;
-    while layer < Scanline::LAYERS {
+    for layer in 0..Scanline::LAYERS {
         let base = layer * n;
-        if 0 < uneven(c, base, base + nx) {
+        if 0 < marks::uneven(&c[base..base + nx]) {
             return false;
         }
-        layer += 1;
     }
     true
 }
@@ -82,39 +55,35 @@ fn even_at(c: &[u16], n: usize, x: usize) -> bool
     requires { RowsOk n n c.now × (x < n) }
     ensures { EvenTold n c.now x result }
 {
-    let mut layer = 0;
-    while layer < Scanline::LAYERS {
+    for layer in 0..Scanline::LAYERS {
         if c[layer * n + x] != Scanline::ZERO {
             return false;
         }
-        layer += 1;
     }
     true
 }
 
-fn search(c: &[u16], n: usize, nx: usize) -> Closure
+fn search(c: &[u16], n: usize, nx: usize) -> Result<(), Open>
     requires { RowsOk n nx c.now }
     ensures { Found n nx c.now result }
 {
-    let mut x = 0;
-    while x < nx {
+    for x in 0..nx {
         if !even_at(c, n, x) {
-            return Closure::Open(x);
+            return Err(Open { rank: x });
         }
-        x += 1;
     }
-    Closure::Closed
+    Ok(())
 }
 
 // Whether the edges of layers and ends, of which the ranks are below nx, are closed by ends. c is fresh before and has the marks of all edges after, so it is fresh again
 // where they are closed.
-pub fn test(layers: &[u8], ends: &[u16], n: usize, nx: usize, c: &mut [u16]) -> Closure
+pub fn test(layers: &[u8], ends: &[u16], n: usize, nx: usize, c: &mut [u16]) -> Result<(), Open>
     requires { TestOk layers.now ends.now n nx c.old }
     ensures { Tested n layers.now ends.now c.new result }
 {
     mark_all(layers, ends, n, c);
     if all_even(c, n, nx) {
-        return Closure::Closed;
+        return Ok(());
     }
     search(c, n, nx)
 }

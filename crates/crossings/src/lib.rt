@@ -1,14 +1,28 @@
 // The sweep by edges: the edges of one place, in the order of y, across the rows of the strips.
-// A word stands for an edge: 8,192 times its y and its number k. Its layer stands at k in `layers`, the ranks of its from and to at k + k and k + k + 1 in `ends`.
 #![tactic(auto)]
 
-ghost use Rattle.std.specs.Prelude.{◌≡◌, ◌/◌, ◌%◌, ◌<◌, length, get_or};
+ghost use Rattle.std.specs.Prelude.{◌≡◌, ◌≢◌, ℕ, ◌+◌, ◌/◌, ◌%◌, ◌<◌, List, length, get_or};
+ghost use Rattle.strips.specs.Strips.{lower, upper};
 ghost use Rattle.marks.specs.Marks.{FreshMarks};
-ghost use Rattle.crossings.specs.Swept.{least_of, most_of, PassOk, Passing, AdvanceOk, Advanced, MarkOk, MarkedOne, MarkAllOk, PlaceMarked, many_at};
+ghost use Rattle.crossings.specs.declared.Reach.{Reach};
+ghost use Rattle.crossings.specs.Swept.{height_of, layer_of, from_of, to_of, PassOk, AdvanceOk, Advanced, MarkOk, MarkAllOk, many_at};
+ghost use Rattle.crossings.specs.Steps.{StepLaws};
+ghost use Rattle.crossings.specs.StripSteps.{StripsPassed, StripsHeld, strips_laws};
+ghost use Rattle.crossings.specs.MarkSteps.{EdgeMarked, MarksHeld, marks_laws};
+
+use strips::Strips;
 
 // From so many edges at one y on it is faster to mark their ends and to sum the marks up along the strips once; with fewer, to cross the strips edge by edge.
 // It chooses the way only: the answer does not depend on it.
 const MANY: usize = 32;
+
+// The edges: a word stands for each, 8,192 times its y and its number k. Its layer stands at k in `layers`, the ranks of its from and to at k + k and k + k + 1 in `ends`.
+#[derive(Clone, Copy)]
+pub struct Edges<'a> {
+    pub words: &'a [u64],
+    pub layers: &'a [u8],
+    pub ends: &'a [u16],
+}
 
 // The strips from lo on, below hi, were touched; next is the first edge of another place.
 #[derive(Clone, Copy)]
@@ -34,156 +48,159 @@ fn height(w: u64) -> u64
 fn number(w: u64) -> usize
     ensures { result ≡ w % 8192 }
 {
+    // A cast: `usize` has no `From<u64>`, and no number below 8,192 fails to fit.
     (w % 8192) as usize
 }
 
-fn wide(x: u8) -> usize
-    ensures { result ≡ x }
-{
-    x as usize
-}
+impl Edges<'_> {
+    // The layer of the edge of a word.
+    fn layer(self, w: u64) -> usize
+        requires { w % 8192 < length self.layers.now }
+        ensures { result ≡ layer_of self.entry.layers.now w }
+    {
+        usize::from(self.layers[number(w)])
+    }
 
-fn rank(x: u16) -> usize
-    ensures { result ≡ x }
-{
-    x as usize
-}
+    // The rank of its from.
+    fn from(self, w: u64) -> usize
+        requires { w % 8192 + w % 8192 < length self.ends.now }
+        ensures { result ≡ from_of self.entry.ends.now w }
+    {
+        let k = number(w);
+        usize::from(self.ends[k + k])
+    }
 
-fn layer(layers: &[u8], k: usize) -> usize
-    requires { k < length layers.now }
-    ensures { result ≡ get_or layers.now k 0 }
-{
-    wide(layers[k])
-}
-
-fn end(ends: &[u16], p: usize) -> usize
-    requires { p < length ends.now }
-    ensures { result ≡ get_or ends.now p 0 }
-{
-    rank(ends[p])
-}
-
-fn least(a: usize, b: usize) -> usize
-    ensures { result ≡ least_of a b }
-{
-    if a < b { a } else { b }
-}
-
-fn most(a: usize, b: usize) -> usize
-    ensures { result ≡ most_of a b }
-{
-    if a < b { b } else { a }
-}
-
-// One edge.
-fn pass(w: u64, layers: &[u8], ends: &[u16], n: usize, c: &mut [u16], covers: &mut [u8]) -> Reach
-    requires { PassOk n w layers.now ends.now c.old covers.old }
-    ensures { Passing n w layers.now ends.now c.old c.new covers.old covers.new result }
-{
-    let k = number(w);
-    let l = layer(layers, k);
-    let f = end(ends, k + k);
-    let t = end(ends, k + k + 1);
-    strips::cross(c, covers, n, l, f, t);
-    Reach {
-        lo: least(t, f),
-        hi: most(t, f),
+    // The rank of its to.
+    fn to(self, w: u64) -> usize
+        requires { w % 8192 + w % 8192 + 1 < length self.ends.now }
+        ensures { result ≡ to_of self.entry.ends.now w }
+    {
+        let k = number(w);
+        usize::from(self.ends[k + k + 1])
     }
 }
 
-// Each edge of the place of edge g across the strips that it spans. Cost: these strips.
-fn each(
-    ws: &[u64],
-    g: usize,
-    layers: &[u8],
-    ends: &[u16],
-    n: usize,
-    c: &mut [u16],
-    covers: &mut [u8],
-) -> Touched
-    requires { AdvanceOk n ws.now layers.now ends.now g c.old covers.old }
-    ensures { Advanced n ws.now layers.now ends.now g c.old c.new covers.old covers.new result }
-{
-    let y = height(ws[g]);
-    let mut e = g;
-    let mut lo = n;
-    let mut hi = 0;
-    while e < ws.len() {
-        let w = ws[e];
-        if height(w) != y {
-            return Touched { next: e, lo, hi };
+impl Reach {
+    // Of an edge from rank f to rank t.
+    fn of(f: usize, t: usize) -> Reach
+        ensures lo { result.lo ≡ lower f t }
+        ensures hi { result.hi ≡ upper f t }
+    {
+        Reach {
+            lo: t.min(f),
+            hi: t.max(f),
         }
-        let s = pass(w, layers, ends, n, c, covers);
-        lo = least(lo, s.lo);
-        hi = most(hi, s.hi);
-        e += 1;
     }
-    Touched { next: e, lo, hi }
+}
+
+// What is done with one edge: it is passed, or its ends are marked.
+trait Step {
+    // What is there before the first edge of a place.
+    ghost starts: { ℕ → List ℕ → List ℕ → List ℕ → ℕ → Self → Type 0 };
+
+    // What an edge asks for.
+    ghost asks: { ℕ → ℕ → List ℕ → List ℕ → Self → Type 0 };
+
+    // What is done with it.
+    ghost does: { ℕ → ℕ → List ℕ → List ℕ → Self → Self → Reach → Type 0 };
+
+    // What is there after the edges of the place that are done.
+    ghost holds: { ℕ → List ℕ → List ℕ → List ℕ → ℕ → Self → ℕ → ℕ → ℕ → Self → Type 0 };
+
+    ghost laws: { StepLaws starts asks does holds };
+
+    fn step(&mut self, w: u64, edges: Edges<'_>, n: usize) -> Reach
+        requires { asks n w edges.layers.now edges.ends.now self.old }
+        ensures { does n w edges.entry.layers.now edges.entry.ends.now self.old self.new result };
+}
+
+// One edge across the strips that it spans. Cost: these strips.
+impl Step for Strips<'_> {
+    ghost starts = { λ n ws layers ends g s. AdvanceOk n ws layers ends g s.counts.now s.covers.now };
+
+    ghost asks = { λ n w layers ends s. PassOk n w layers ends s.counts.now s.covers.now };
+
+    ghost does = { StripsPassed };
+
+    ghost holds = { StripsHeld };
+
+    ghost laws = { strips_laws };
+
+    fn step(&mut self, w: u64, edges: Edges<'_>, n: usize) -> Reach {
+        let f = edges.from(w);
+        let t = edges.to(w);
+        strips::cross(self, n, edges.layer(w), f, t);
+        Reach::of(f, t)
+    }
+}
+
+// The marks, lent.
+#[derive(Drop)]
+struct Marks<'a> {
+    marks: &'a mut [u16],
 }
 
 // The marks of one edge.
-fn mark(w: u64, layers: &[u8], ends: &[u16], n: usize, marks: &mut [u16]) -> Reach
-    requires { MarkOk n w layers.now ends.now marks.old }
-    ensures { MarkedOne n w layers.now ends.now marks.old marks.new result }
-{
-    let k = number(w);
-    let l = layer(layers, k);
-    let f = end(ends, k + k);
-    let t = end(ends, k + k + 1);
-    marks::mark(marks, n, l, f, t);
-    Reach {
-        lo: least(t, f),
-        hi: most(t, f),
+impl Step for Marks<'_> {
+    ghost starts = { λ n ws layers ends g s. MarkAllOk n ws layers ends g s.marks.now };
+
+    ghost asks = { λ n w layers ends s. MarkOk n w layers ends s.marks.now };
+
+    ghost does = { EdgeMarked };
+
+    ghost holds = { MarksHeld };
+
+    ghost laws = { marks_laws };
+
+    fn step(&mut self, w: u64, edges: Edges<'_>, n: usize) -> Reach {
+        let f = edges.from(w);
+        let t = edges.to(w);
+        marks::mark(self.marks, n, edges.layer(w), f, t);
+        Reach::of(f, t)
     }
 }
 
-// The marks of all edges of the place of edge g.
-fn mark_all(
-    ws: &[u64],
-    g: usize,
-    layers: &[u8],
-    ends: &[u16],
-    n: usize,
-    marks: &mut [u16],
-) -> Touched
-    requires { MarkAllOk n ws.now layers.now ends.now g marks.old }
-    ensures { PlaceMarked n ws.now layers.now ends.now g marks.new result }
+// The step with each edge of the place of edge g.
+fn each<S: Step>(edges: Edges<'_>, g: usize, n: usize, on: &mut S) -> Touched
+    requires { S.starts n edges.words.now edges.layers.now edges.ends.now g on.old }
+    ensures held { S.holds n edges.entry.words.now edges.entry.layers.now edges.entry.ends.now g on.old result.next result.lo result.hi on.new }
+    ensures stop { result.next < length edges.entry.words.now → height_of (get_or edges.entry.words.now result.next 0) ≢ height_of (get_or edges.entry.words.now g 0) }
 {
-    let here = height(ws[g]);
-    let mut e = g;
+    let y = height(edges.words[g]);
     let mut lo = n;
     let mut hi = 0;
-    while e < ws.len() {
-        let w = ws[e];
-        if height(w) != here {
+    for e in g..edges.words.len() {
+        let w = edges.words[e];
+        if height(w) != y {
             return Touched { next: e, lo, hi };
         }
-        let m = mark(w, layers, ends, n, marks);
-        lo = least(lo, m.lo);
-        hi = most(hi, m.hi);
-        e += 1;
+        let s = on.step(w, edges, n);
+        lo = lo.min(s.lo);
+        hi = hi.max(s.hi);
     }
-    Touched { next: e, lo, hi }
+    Touched {
+        next: edges.words.len(),
+        lo,
+        hi,
+    }
 }
 
 // The ends of the edges of the place of edge g marked, and the marks summed up along the strips. Cost: the edges, and for each layer the strips from the least end to the greatest.
 fn marked(
-    ws: &[u64],
+    edges: Edges<'_>,
     g: usize,
-    layers: &[u8],
-    ends: &[u16],
     n: usize,
-    c: &mut [u16],
-    covers: &mut [u8],
+    strips: &mut Strips<'_>,
     marks: &mut [u16],
 ) -> Touched
-    requires { AdvanceOk n ws.now layers.now ends.now g c.old covers.old × FreshMarks n marks.old }
-    ensures { Advanced n ws.now layers.now ends.now g c.old c.new covers.old covers.new result × (marks.new ≡ marks.old) }
+    requires { AdvanceOk n edges.words.now edges.layers.now edges.ends.now g strips.old.counts.now strips.old.covers.now × FreshMarks n marks.old }
+    ensures advanced { Advanced n edges.entry.words.now edges.entry.layers.now edges.entry.ends.now g strips.old.counts.now strips.new.counts.now strips.old.covers.now strips.new.covers.now result }
+    ensures fresh { marks.new ≡ marks.old }
+    ensures lent { (strips.new.counts.ghost_name ≡ strips.old.counts.ghost_name) × (strips.new.covers.ghost_name ≡ strips.old.covers.ghost_name) }
 {
-    let t = mark_all(ws, g, layers, ends, n, marks);
-    let lo = t.lo;
-    let hi = t.hi;
-    marks::sum_all(c, covers, marks, n, lo, hi);
+    let mut m = Marks { marks };
+    let t = each(edges, g, n, &mut m);
+    marks::sum_all(strips, m.marks, n, t.lo, t.hi);
     t
 }
 
@@ -200,20 +217,19 @@ fn many(ws: &[u64], g: usize) -> bool
 
 // The edges of the place of edge g, the faster way. The marks are fresh, before and after.
 pub fn advance(
-    ws: &[u64],
+    edges: Edges<'_>,
     g: usize,
-    layers: &[u8],
-    ends: &[u16],
     n: usize,
-    c: &mut [u16],
-    covers: &mut [u8],
+    strips: &mut Strips<'_>,
     marks: &mut [u16],
 ) -> Touched
-    requires { AdvanceOk n ws.now layers.now ends.now g c.old covers.old × FreshMarks n marks.old }
-    ensures { Advanced n ws.now layers.now ends.now g c.old c.new covers.old covers.new result × (marks.new ≡ marks.old) }
+    requires { AdvanceOk n edges.words.now edges.layers.now edges.ends.now g strips.old.counts.now strips.old.covers.now × FreshMarks n marks.old }
+    ensures advanced { Advanced n edges.entry.words.now edges.entry.layers.now edges.entry.ends.now g strips.old.counts.now strips.new.counts.now strips.old.covers.now strips.new.covers.now result }
+    ensures fresh { marks.new ≡ marks.old }
+    ensures lent { (strips.new.counts.ghost_name ≡ strips.old.counts.ghost_name) × (strips.new.covers.ghost_name ≡ strips.old.covers.ghost_name) }
 {
-    if many(ws, g) {
-        return marked(ws, g, layers, ends, n, c, covers, marks);
+    if many(edges.words, g) {
+        return marked(edges, g, n, strips, marks);
     }
-    each(ws, g, layers, ends, n, c, covers)
+    each(edges, g, n, strips)
 }

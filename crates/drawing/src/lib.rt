@@ -6,16 +6,33 @@ ghost use Rattle.meaning.specs.Numbers.{zero_to, pick, in_range};
 ghost use Rattle.meaning.specs.Drawn.{view_in_range, record_in_range, farthest, all_drawn, ExactFloat};
 ghost use Rattle.drawing.specs.Drawing.{ExactFloats, ByOffsets, Drawing};
 
+// A view: its origin, and the zoom.
+#[derive(Clone, Copy, Debug, PartialEq, Eq)]
+pub struct View {
+    pub ox: i32,
+    pub oy: i32,
+    pub zoom: i32,
+}
+
+// A record as it is given: four numbers. It is no `edge::Record`, whose first number is a layer, and whose test is another.
+#[derive(Clone, Copy, Debug, PartialEq, Eq)]
+pub struct Record {
+    pub kind: i32,
+    pub place: i32,
+    pub from: i32,
+    pub to: i32,
+}
+
 // What a drawn edge carries: its place and its two ends.
-#[derive(Clone, Copy)]
+#[derive(Clone, Copy, Debug)]
 pub struct Floats {
     pub place: f32,
     pub from: f32,
     pub to: f32,
 }
 
-// A level edge, an upright one, or a refusal's number.
-#[derive(Clone, Copy)]
+// A level edge, an upright one, or a refusal's number: the specification names this form, so a refusal is no `Err` here.
+#[derive(Clone, Copy, Debug)]
 pub enum Drawn {
     Level(Floats),
     Upright(Floats),
@@ -25,139 +42,132 @@ pub enum Drawn {
 fn is_zoom(zoom: i32) -> bool
     ensures { result ≡ zero_to 16 zoom }
 {
-    0 <= zoom && zoom <= 16
+    (0..=16).contains(&zoom)
 }
 
 fn is_kind(kind: i32) -> bool
     ensures { result ≡ zero_to 1 kind }
 {
-    0 <= kind && kind <= 1
+    (0..=1).contains(&kind)
+}
+
+impl View {
+    fn in_range(self) -> bool
+        ensures { result ≡ view_in_range self.ox self.oy self.zoom }
+    {
+        whole::in_range(self.ox) && whole::in_range(self.oy) && is_zoom(self.zoom)
+    }
+}
+
+impl Record {
+    fn in_range(self) -> bool
+        ensures { result ≡ record_in_range self.kind self.place self.from self.to }
+    {
+        is_kind(self.kind)
+            && whole::in_range(self.place)
+            && whole::in_range(self.from)
+            && whole::in_range(self.to)
+    }
+}
+
+// A record's numbers less the origins of their axes: up to 2^31 in size, so in 64 bits.
+#[derive(Clone, Copy)]
+struct Offsets {
+    place: i64,
+    from: i64,
+    to: i64,
 }
 
 // Whether an offset is drawn: its size is at most 2^24, up to which a float holds every whole number.
 fn is_drawn(d: i64) -> bool
     ensures { result ≡ in_range farthest d }
 {
-    -16777216 <= d && d <= 16777216
+    (-16777216..=16777216).contains(&d)
 }
 
-fn view_in_range(ox: i32, oy: i32, zoom: i32) -> bool
-    ensures { result ≡ view_in_range ox oy zoom }
-{
-    if !whole::in_range(ox) {
-        return false;
-    }
-    if !whole::in_range(oy) {
-        return false;
-    }
-    is_zoom(zoom)
-}
-
-fn record_in_range(kind: i32, place: i32, from: i32, to: i32) -> bool
-    ensures { result ≡ record_in_range kind place from to }
-{
-    if !is_kind(kind) {
-        return false;
-    }
-    if !whole::in_range(place) {
-        return false;
-    }
-    if !whole::in_range(from) {
-        return false;
-    }
-    whole::in_range(to)
-}
-
-fn all_drawn(dp: i64, df: i64, dt: i64) -> bool
-    ensures { result ≡ all_drawn dp df dt }
-{
-    if !is_drawn(dp) {
-        return false;
-    }
-    if !is_drawn(df) {
-        return false;
-    }
-    is_drawn(dt)
-}
-
-// A coordinate less the origin of its axis: up to 2^31 in size, so in 64 bits.
+// A coordinate less the origin of its axis.
 fn offset(coordinate: i32, origin: i32) -> i64
     ensures { result ≡ coordinate -ℤ origin }
 {
-    (coordinate as i64) - (origin as i64)
+    i64::from(coordinate) - i64::from(origin)
 }
 
-// d / 2^z. The cast loses nothing, and each half is exact.
+// d / 2^z. The cast loses nothing, and each half is exact. That z is at most 16 is asked here and in the two functions that hand it on: a type for it would be opened here again.
 fn halved(d: i64, z: u32) -> f32
     requires d_bound { nat_abs d ≤ farthest }
     requires z_bound { z ≤ 16 }
     ensures { ExactFloat d z result }
 {
     let mut x = d as f32;
-    let mut i = 0u32;
-    while i < z {
-        x = x * 0.5;
-        i += 1;
+    for _ in 0..z {
+        x *= 0.5;
     }
     x
 }
 
-// The floats of three offsets.
-fn exact_floats(dp: i64, df: i64, dt: i64, z: u32) -> Floats
-    requires dt_value { all_drawn dp df dt ≡ true }
-    requires z_bound { z ≤ 16 }
-    ensures { ExactFloats dp df dt z result }
-{
-    let place = halved(dp, z);
-    let from = halved(df, z);
-    let to = halved(dt, z);
-    Floats { place, from, to }
-}
+impl Offsets {
+    fn are_drawn(self) -> bool
+        ensures { result ≡ all_drawn self.place self.from self.to }
+    {
+        is_drawn(self.place) && is_drawn(self.from) && is_drawn(self.to)
+    }
 
-fn level_or_upright(level: bool, e: Floats) -> Drawn
-    ensures { result ≡ pick level (Drawn.Level e) (Drawn.Upright e) }
-{
-    if level {
-        Drawn::Level(e)
-    } else {
-        Drawn::Upright(e)
+    fn halved(self, z: u32) -> Floats
+        requires drawn { all_drawn self.place self.from self.to ≡ true }
+        requires z_bound { z ≤ 16 }
+        ensures { ExactFloats self.place self.from self.to z result }
+    {
+        Floats {
+            place: halved(self.place, z),
+            from: halved(self.from, z),
+            to: halved(self.to, z),
+        }
     }
 }
 
-// The edge with these three offsets.
-fn by_offsets(level: bool, dp: i64, df: i64, dt: i64, z: u32) -> Drawn
+// The edge with these three offsets. `level` chooses the case of the answer, and no step.
+fn by_offsets(level: bool, offsets: Offsets, z: u32) -> Drawn
     requires { z ≤ 16 }
-    ensures { ByOffsets level dp df dt z result }
+    ensures { ByOffsets level offsets.place offsets.from offsets.to z result }
 {
-    if !all_drawn(dp, df, dt) {
+    if !offsets.are_drawn() {
         return Drawn::Refused(20);
     }
-    level_or_upright(level, exact_floats(dp, df, dt, z))
+    let floats = offsets.halved(z);
+    if level {
+        Drawn::Level(floats)
+    } else {
+        Drawn::Upright(floats)
+    }
 }
 
-// The record (kind, place, from, to) in the view with the origin (ox, oy) and the zoom.
-pub fn draw(ox: i32, oy: i32, zoom: i32, kind: i32, place: i32, from: i32, to: i32) -> Drawn
-    ensures { Drawing ox oy zoom kind place from to result }
+// The record in the view.
+pub fn draw(view: View, given: Record) -> Drawn
+    ensures { Drawing view.ox view.oy view.zoom given.kind given.place given.from given.to result }
 {
-    if !view_in_range(ox, oy, zoom) {
+    if !view.in_range() {
         return Drawn::Refused(19);
     }
-    if !record_in_range(kind, place, from, to) {
+    if !given.in_range() {
         return Drawn::Refused(3);
     }
-    if whole::same(from, to) {
+    if given.from == given.to {
         return Drawn::Refused(4);
     }
-    let z = zoom as u32;
-    if whole::same(kind, 0) {
-        by_offsets(true, offset(place, oy), offset(from, ox), offset(to, ox), z)
+    let z = view.zoom as u32;
+    if given.kind == 0 {
+        let offsets = Offsets {
+            place: offset(given.place, view.oy),
+            from: offset(given.from, view.ox),
+            to: offset(given.to, view.ox),
+        };
+        by_offsets(true, offsets, z)
     } else {
-        by_offsets(
-            false,
-            offset(place, ox),
-            offset(from, oy),
-            offset(to, oy),
-            z,
-        )
+        let offsets = Offsets {
+            place: offset(given.place, view.ox),
+            from: offset(given.from, view.oy),
+            to: offset(given.to, view.oy),
+        };
+        by_offsets(false, offsets, z)
     }
 }

@@ -1,5 +1,6 @@
 -- Tests and lifts of the numbers of a record, by their keys. Assumes nothing.
 --
+--   edge_of r                 the edge that the record r is
 --   Keyed z r                 r is the key of z, a 32-bit number
 --   layer_key, coordinate_key the tests of a sound edge, by keys
 --   number_in                 the coordinates of a sound edge are in range, number by number
@@ -13,12 +14,16 @@ use native.Mathlib.Omega.{arith}
 use Rattle.std.specs.Int.Signed.{mag, le_z}
 use borrow.Author.Tests.{leb-true, le-leb}
 use Rattle.meaning.specs.Numbers.{limit, in_range}
-use Rattle.meaning.specs.Edges.{sound_edge}
+use Rattle.meaning.specs.Edges.{Edge, edge, sound_edge}
 use Rattle.basic_laws.specs.Tests.{and_on, leb_same}
 use Rattle.basic_laws.specs.Signed.{key_of, le_key}
 use Rattle.basic_laws.specs.Steps.{lift}
 use Rattle.basic_laws.specs.Fours.{part, edge_at}
 use Rattle.basic_laws.specs.Sound.{SoundParts, sound_parts}
+use Rattle.edge.specs.declared.Record.{Record}
+
+abbrev pub edge_of : Record → Edge ℤ
+edge_of r = edge r.layer r.y r.from r.to
 
 pub record Keyed (z : ℤ) (r : ℕ) : Type 0 where
   pub is : r ≡ key_of z

@@ -1,87 +1,99 @@
-// One record of an edge list: its tests, and its numbers as natural numbers. A signed number is read in one place, and is a natural number from there on.
+// One record of an edge list: its tests, and the edge that it is in steps.
 #![tactic(auto)]
 
-ghost use Rattle.std.specs.Prelude.{◌≡◌, true, ◌&&◌, ◌+◌, ◌*◌, ◌<◌, leb, nat_abs, length};
-ghost use Rattle.meaning.specs.Numbers.{limit};
+ghost use Rattle.std.specs.Prelude.{◌≡◌, true, ◌&&◌, ◌+◌, ◌*◌, ◌<◌, pos, nat_abs, length};
+ghost use Rattle.std.specs.Int.Signed.{le_z};
+ghost use Rattle.meaning.specs.Numbers.{limit, in_range};
 ghost use Rattle.meaning.specs.Edges.{sound_edge, flat};
 ghost use Rattle.basic_laws.specs.Steps.{lift};
-ghost use Rattle.basic_laws.specs.Fours.{part, edge_at};
-ghost use Rattle.edge.specs.Keys.{Keyed};
+ghost use Rattle.basic_laws.specs.Fours.{edge_at};
+ghost use Rattle.edge.specs.Keys.{edge_of};
 
 use scanline::Scanline;
 
-// The key of 0, 2^31: a key is a number moved up by it.
-const MIDDLE: u32 = 2147483648;
+// The last layer.
+const LAST_LAYER: i32 = Scanline::LAYERS as i32 - 1;
 
-// The key of the last layer.
-const LAST_LAYER: u32 = MIDDLE + Scanline::LAYERS as u32 - 1;
+// The key of the least coordinate: a key is a number moved up by 2^31.
+const LEAST: u32 = 2147483648 - Scanline::LIMIT;
 
-// The key of the least coordinate.
-const LEAST: u32 = MIDDLE - Scanline::LIMIT;
-
-// The key of the greatest coordinate.
-const GREATEST: u32 = MIDDLE + Scanline::LIMIT;
-
-// Number j of record k, moved up by 2^31.
-fn key_at(edges: &[i32], k: usize, j: usize) -> u32
-    requires { 4 * k + j < length edges.now }
-    ensures { Keyed (part edges.now k j) result }
-{
-    whole::key(edges[4 * k + j])
+// A record: four numbers.
+#[derive(Clone, Copy, Debug, PartialEq, Eq)]
+pub struct Record {
+    pub layer: i32,
+    pub y: i32,
+    pub from: i32,
+    pub to: i32,
 }
 
-// Whether the number of this key is a layer.
-fn is_layer(key: u32) -> bool
-    ensures { result ≡ (leb 2147483648 key && leb key 2147483655) }
-{
-    MIDDLE <= key && key <= LAST_LAYER
+// An edge in steps: its coordinates moved up by 2^30.
+#[derive(Clone, Copy, Debug, PartialEq, Eq)]
+pub struct Steps {
+    pub layer: u8,
+    pub y: u32,
+    pub from: u32,
+    pub to: u32,
 }
 
-// Whether the number of this key is from -2^30 to 2^30.
-fn is_coordinate(key: u32) -> bool
-    ensures { result ≡ (leb 1073741824 key && leb key 3221225472) }
+fn is_layer(z: i32) -> bool
+    ensures { result ≡ (le_z (pos 0) z && le_z z (pos 7)) }
 {
-    LEAST <= key && key <= GREATEST
+    (0..=LAST_LAYER).contains(&z)
 }
 
-// Whether record k has a layer from 0 to 7, and coordinates within the limit.
-pub fn sound(edges: &[i32], k: usize) -> bool
-    requires { 4 * k + 3 < length edges.now }
-    ensures { result ≡ sound_edge 7 limit (edge_at edges.now k) }
+// A coordinate moved up by 2^30.
+fn lifted(z: i32) -> u32
+    requires { in_range limit z ≡ true }
+    ensures { result ≡ lift limit z }
 {
-    if !is_layer(key_at(edges, k, 0)) {
-        return false;
+    whole::key(z) - LEAST
+}
+
+impl Record {
+    // Record k of an edge list.
+    pub fn at(edges: &[i32], k: usize) -> Self
+        requires { 4 * k + 3 < length edges.now }
+        ensures { edge_of result ≡ edge_at edges.now k }
+    {
+        Self {
+            layer: edges[4 * k],
+            y: edges[4 * k + 1],
+            from: edges[4 * k + 2],
+            to: edges[4 * k + 3],
+        }
     }
-    if !is_coordinate(key_at(edges, k, 1)) {
-        return false;
+
+    // Whether it has a layer from 0 to 7, and coordinates within the limit.
+    pub fn is_sound(self) -> bool
+        ensures { result ≡ sound_edge 7 limit (edge_of self) }
+    {
+        is_layer(self.layer)
+            && whole::in_range(self.y)
+            && whole::in_range(self.from)
+            && whole::in_range(self.to)
     }
-    if !is_coordinate(key_at(edges, k, 2)) {
-        return false;
+
+    // Whether its from equals its to.
+    pub fn is_flat(self) -> bool
+        ensures { result ≡ flat (edge_of self) }
+    {
+        self.from == self.to
     }
-    is_coordinate(key_at(edges, k, 3))
-}
 
-// Whether its from equals its to.
-pub fn equal_ends(edges: &[i32], k: usize) -> bool
-    requires { 4 * k + 3 < length edges.now }
-    ensures { result ≡ flat (edge_at edges.now k) }
-{
-    key_at(edges, k, 2) == key_at(edges, k, 3)
-}
-
-// The layer of a sound record.
-pub fn layer(edges: &[i32], k: usize) -> u32
-    requires { (4 * k + 3 < length edges.now) × (sound_edge 7 limit (edge_at edges.now k) ≡ true) }
-    ensures { (result ≡ nat_abs (part edges.now k 0)) × (result < 8) }
-{
-    key_at(edges, k, 0) - MIDDLE
-}
-
-// Number j of a sound record, 1 for y, 2 for from, 3 for to, moved up by 2^30.
-pub fn coordinate(edges: &[i32], k: usize, j: usize) -> u32
-    requires k_in_bounds { (4 * k + 3 < length edges.now) × (sound_edge 7 limit (edge_at edges.now k) ≡ true) }
-    requires j_nonzero { (0 < j) × (j < 4) }
-    ensures { result ≡ lift limit (part edges.now k j) }
-{
-    key_at(edges, k, j) - LEAST
+    // The edge in steps.
+    pub fn in_steps(self) -> Steps
+        requires { sound_edge 7 limit (edge_of self) ≡ true }
+        ensures layer { result.layer ≡ nat_abs self.layer }
+        ensures low { result.layer < 8 }
+        ensures y { result.y ≡ lift limit self.y }
+        ensures from { result.from ≡ lift limit self.from }
+        ensures to { result.to ≡ lift limit self.to }
+    {
+        Steps {
+            layer: self.layer as u8,
+            y: lifted(self.y),
+            from: lifted(self.from),
+            to: lifted(self.to),
+        }
+    }
 }

@@ -1,3 +1,3 @@
--- Judging an edge list: what its answers are in the table, that there is one, and the laws by which it is shown.
+-- Judging an edge list: the rows that it decides, that there is one answer, and the laws by which it is shown.
 pub mod Answering
 pub mod Refusals

@@ -8,7 +8,7 @@
 --   fine_list, fine_sloping where it finds nothing: the list is sound, and no edge has from equal to to
 --   fine_answer, open_answer   and then the whole table accepts the list, if it is closed, or else refuses it as not closed
 --   one_judged              ANSWERS THAT MEET THE CONTRACT OF `judge` ARE EQUAL
-use Rattle.std.specs.Prelude.{◌≡◌, refl, true, false, List, [], ◌∷◌, ◌++◌, ℕ, zero, suc, ◌+◌, ◌/◌, ◌%◌, ◌≤◌, ◌<◌, ℤ, length, get_or, drop}
+use Rattle.std.specs.Prelude.{◌≡◌, refl, true, false, Result, Ok, Err, List, [], ◌∷◌, ◌++◌, ℕ, suc, ◌+◌, ◌/◌, ◌%◌, ◌≤◌, ◌<◌, ℤ, length, get_or, drop}
 use Rattle.std.proofs.Common.{sym, ap, ◌∙◌, subst, true≢false, inl, inr, append-nil, zero-add, arith, drop-cons, below_none, below_more}
 use Rattle.std.proofs.Math.Decide.{dec_lt, ℕ_discrete}
 use Rattle.std.proofs.Math.Seq.{drop-length}
@@ -20,9 +20,9 @@ use Rattle.basic_laws.specs.Tests.{is_other}
 use Rattle.basic_laws.specs.Fours.{edge_at, none, edges_length, edges_at}
 use Rattle.basic_laws.specs.Sound.{SoundList}
 use Rattle.laws.specs.Accepting.{Passed, Good, closing, past_good, edges_open, edges_pass, edges_single, refused, not_accepted}
-use Rattle.edges.specs.Answering.{answer_of, list_rows}
-use Rattle.edges.specs.declared.Judged.{Judged}
-use Rattle.edges.specs.declared.Judged.TheVariants.{Fine, NotFours, TooManyEdges, OutOfRange, FromEqualsTo}
+use Rattle.answers.specs.declared.Refusal.{Refusal}
+use Rattle.answers.specs.Told.{answer_of, verdict, refusal_number, verdict_same}
+use Rattle.edges.specs.Answering.{list_rows}
 
 pub all_rows : (top L : ℕ) (ns : List ℤ) → edge_rows top L ns ≡ list_rows top L ns ++ closing ns
 all_rows top L ns = refl
@@ -92,11 +92,11 @@ module _ (top L : ℕ) (ns : List ℤ) (k : ℕ) (F : FineTo top L ns k) where
 
 -- ---- what the answers say
 
-module _ (L : ℕ) (ns : List ℤ) (r : Judged) (J : First (list_rows 7 L ns) Passed (answer_of r)) where
-  pub refused_answer : (s : Judged) → r ≡ s → ((answer_of s).number ≡ 0 → ⊥) → First (edge_rows 7 L ns) Passed (answer_of s)
-  refused_answer s e n = first_stops (list_rows 7 L ns) (closing ns) Passed Passed (answer_of s) (rw e at J) (refused (answer_of s) 0 n)
+module _ (L : ℕ) (ns : List ℤ) (r : Result (Unit {0}) Refusal) (J : First (list_rows 7 L ns) Passed (verdict r)) where
+  pub refused_answer : (s : Refusal) → r ≡ Err s → First (edge_rows 7 L ns) Passed (answer_of s)
+  refused_answer s e = first_stops (list_rows 7 L ns) (closing ns) Passed Passed (answer_of s) (rw e at J) (refused (answer_of s) 0 (refusal_number s))
 
-  module _ (is : r ≡ Fine) where
+  module _ (is : r ≡ Ok tt) where
     passed : First (list_rows 7 L ns) Passed (accepted 0)
     passed = rw is at J
 
@@ -143,24 +143,7 @@ singles_front : (rows more : List (Row Answer)) → Singles (rows ++ more) → S
 singles_front [] more s = tt
 singles_front (row ∷ rows) more s = (s.0, singles_front rows more s.1)
 
--- the case that has a number and a value
-judged_of : ℕ → ℕ → Judged
-judged_of zero v = Fine
-judged_of (suc zero) v = NotFours
-judged_of (suc (suc zero)) v = TooManyEdges
-judged_of (suc (suc (suc zero))) v = OutOfRange v
-judged_of (suc (suc (suc (suc n)))) v = FromEqualsTo v
-
-judged_back : (j : Judged) → judged_of (answer_of j).number (answer_of j).value ≡ j
-unfolding judged_of
-judged_back Fine = refl
-judged_back NotFours = refl
-judged_back TooManyEdges = refl
-judged_back (OutOfRange k) = refl
-judged_back (FromEqualsTo k) = refl
-
-pub one_judged : (top L : ℕ) (ns : List ℤ) (r s : Judged) → First (list_rows top L ns) Passed (answer_of r) → First (list_rows top L ns) Passed (answer_of s) → r ≡ s
+pub one_judged : (top L : ℕ) (ns : List ℤ) (r s : Result (Unit {0}) Refusal) → First (list_rows top L ns) Passed (verdict r) → First (list_rows top L ns) Passed (verdict s) → r ≡ s
 one_judged top L ns r s x y =
     let single = singles_front (list_rows top L ns) (closing ns) (edges_single top L ns) in
-    let same : answer_of r ≡ answer_of s = one_answer (list_rows top L ns) Passed single (λ a b p q. p ∙ sym q) (answer_of r) (answer_of s) x y in
-    sym (judged_back r) ∙ ap (λ a. judged_of a.number a.value) same ∙ judged_back s
+    verdict_same (λ a b. refl) r s (one_answer (list_rows top L ns) Passed single (λ a b p q. p ∙ sym q) (verdict r) (verdict s) x y)

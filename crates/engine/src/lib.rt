@@ -3,47 +3,31 @@
 #![tactic(auto)]
 
 ghost use Rattle.meaning.specs.Calls.{outcome, Runs, Areas};
-ghost use Rattle.answers.specs.Said.{said};
-ghost use Rattle.walked.specs.Walks.{Walks};
+ghost use Rattle.answers.specs.Told.{told};
+ghost use Rattle.walking.specs.Walks.{Walks};
 
-use answers::Answer;
-use edges::Judged;
-use walked::Walked;
+use answers::Refusal;
+use writing::Found;
 
 // What run answers, with its records in the lent buffer, and the inside cells.
-pub fn walk(edges: &[i32], text: &[u8], records: &mut [i32]) -> Walked
+pub fn walk(edges: &[i32], text: &[u8], records: &mut [i32]) -> Result<Found, Refusal>
     ensures { Walks edges.now text.now records.old records.new result }
 {
-    let judged = edges::judge(edges);
-    match judged {
-        Judged::Fine => return rooms::walk(edges, text, records),
-        Judged::NotFours => return walked::refusal(1, 0),
-        Judged::TooManyEdges => return walked::refusal(2, 0),
-        Judged::OutOfRange(k) => return walked::refusal(3, k as u64),
-        Judged::FromEqualsTo(k) => return walked::refusal(4, k as u64),
-    }
+    edges::judge(edges)?;
+    rooms::walk(edges, text, records)
 }
 
 // The records of an expression over an edge list, into the lent buffer.
-pub fn run(edges: &[i32], text: &[u8], records: &mut [i32]) -> Answer
-    ensures { Runs edges.now text.now records.old (outcome (said result) records.new) }
+pub fn run(edges: &[i32], text: &[u8], records: &mut [i32]) -> Result<u64, Refusal>
+    ensures { Runs edges.now text.now records.old (outcome (told result) records.new) }
 {
-    let walked = walk(edges, text, records);
-    walked.answer
+    walk(edges, text, records)?.records
 }
 
 // The number of inside cells of an expression over an edge list. The walk is lent a buffer that has no room for a record.
-pub fn area(edges: &[i32], text: &[u8]) -> Answer
-    ensures { Areas edges.now text.now (said result) }
+pub fn area(edges: &[i32], text: &[u8]) -> Result<u64, Refusal>
+    ensures { Areas edges.now text.now (told result) }
 {
     let mut none = [0i32; 1];
-    let walked = walk(edges, text, &mut none);
-    let answer = walked.answer;
-    if answer.number == 0 {
-        return answers::accepted(walked.cells);
-    }
-    if answer.number == 10 {
-        return answers::accepted(walked.cells);
-    }
-    answer
+    Ok(walk(edges, text, &mut none)?.cells)
 }

@@ -1,14 +1,13 @@
-// The expression: the judging call, and the table of its values at all covers.
+// The expression: the judging call, and the table of its values at all covers. A reader's answer is opened by `let .. else`: the specification names this form.
 #![tactic(auto)]
 
-ghost use Rattle.std.specs.Prelude.{◌≡◌, true, false, ◌+◌, ◌^◌, ◌≤◌, ◌<◌, eqb};
-ghost use Rattle.meaning.specs.Numbers.{bit};
+ghost use Rattle.std.specs.Prelude.{◌≡◌, true, false, ◌+◌, ◌^◌, ◌≤◌, ◌<◌};
 ghost use Rattle.meaning.specs.Expression.{often, Deep, Judged};
 ghost use Rattle.expression_laws.specs.Cover.{cover_of, Entry, Table};
 ghost use Rattle.expression_laws.specs.Doubling.{Filled};
-ghost use Rattle.expression.specs.Verdicts.{answer_of};
+ghost use Rattle.answers.specs.Told.{verdict};
 
-use readers::Piece;
+use answers::Refusal;
 use scanline::Scanline;
 
 // The most bytes of an expression.
@@ -23,76 +22,43 @@ const LAYERS: u8 = Scanline::LAYERS as u8;
 // The covers: each layer covers or not.
 pub const COVERS: usize = 1 << Scanline::LAYERS;
 
-// 1 where b is x, else 0.
-fn one_if(b: u8, x: u8) -> usize
-    ensures { (result ≡ bit (eqb b x)) × (result ≤ 1) }
-{
-    if b == x { 1 } else { 0 }
-}
-
 // Has some beginning over 16 more `(` than `)`? Both are counted from zero, so that an early `)` stays counted.
 fn too_deep(text: &[u8]) -> bool
     ensures { (result ≡ true → Deep text.now) × (result ≡ false → Deep text.now → ⊥) }
 {
     let mut opens: usize = 0;
     let mut closes: usize = 0;
-    let mut i = 0;
-    while i < text.len() {
-        let b = text[i];
-        opens += one_if(b, b'(');
-        closes += one_if(b, b')');
+    for b in text {
+        opens += usize::from(*b == b'(');
+        closes += usize::from(*b == b')');
         if closes + DEEPEST < opens {
             return true;
         }
-        i += 1;
     }
     false
 }
 
-// The answer to a text as an expression.
-#[derive(Clone, Copy)]
-pub enum Verdict {
-    Accepted,
-    BadLength,
-    TooDeep,
-    NotInGrammar,
-    HoldsOnNothing,
-}
-
-// The number of a verdict in the table of refusals.
-pub fn number(verdict: Verdict) -> u64
-    ensures { result ≡ (answer_of verdict).number }
-{
-    match verdict {
-        Verdict::Accepted => 0,
-        Verdict::BadLength => 6,
-        Verdict::TooDeep => 7,
-        Verdict::NotInGrammar => 8,
-        Verdict::HoldsOnNothing => 9,
-    }
-}
-
 // Judges a text as an expression.
-pub fn judge(text: &[u8]) -> Verdict
-    ensures { Judged text.now (answer_of result) }
+pub fn judge(text: &[u8]) -> Result<(), Refusal>
+    ensures { Judged text.now (verdict result) }
 {
     if text.len() == 0 {
-        return Verdict::BadLength;
+        return Err(Refusal::ExpressionLength);
     }
     if LONGEST < text.len() {
-        return Verdict::BadLength;
+        return Err(Refusal::ExpressionLength);
     }
     if too_deep(text) {
-        return Verdict::TooDeep;
+        return Err(Refusal::TooDeep);
     }
     let r = readers::whole(text, 0);
-    let Piece::Got(unbounded, _) = r else {
-        return Verdict::NotInGrammar;
+    let Some((unbounded, _)) = r else {
+        return Err(Refusal::NotInGrammar);
     };
     if unbounded {
-        return Verdict::HoldsOnNothing;
+        return Err(Refusal::HoldsOnNothing);
     }
-    Verdict::Accepted
+    Ok(())
 }
 
 // The value where the layers that cover are handed, and false where the text is not in the grammar.
@@ -100,7 +66,7 @@ fn value(text: &[u8], handed: readers::Handed) -> bool
     ensures { Entry text.now (cover_of handed) result }
 {
     let r = readers::whole(text, handed);
-    let Piece::Got(v, _) = r else {
+    let Some((v, _)) = r else {
         return false;
     };
     v
@@ -110,17 +76,10 @@ fn value(text: &[u8], handed: readers::Handed) -> bool
 fn stands(text: &[u8], b: u8) -> bool
     ensures { (result ≡ true → often b text.now ≡ 0 → ⊥) × (result ≡ false → often b text.now ≡ 0) }
 {
-    let mut i = 0;
-    while i < text.len() {
-        if text[i] == b {
-            return true;
-        }
-        i += 1;
-    }
-    false
+    text.contains(&b)
 }
 
-// The entry at the cover handed: read, or the one that is known.
+// The entry at the cover handed: read, or the one that is known. The flag is the same for all entries of a layer, and a closure in its place would hide which of the two it is.
 fn entry(text: &[u8], handed: readers::Handed, read: bool, known: bool) -> bool
     requires { read ≡ false → Entry text.now (cover_of handed) known }
     ensures { Entry text.now (cover_of handed) result }
@@ -138,12 +97,10 @@ fn add_layer(text: &[u8], truth: &mut [bool; COVERS], layer: u8, half: usize)
     ensures { Filled text.now (half + half) truth.new }
 {
     let read = stands(text, b'a' + layer);
-    let mut m = half;
-    while m < half + half {
+    for m in half..half + half {
         let known = truth[m - half];
         let v = entry(text, m as u8, read, known);
         truth[m] = v;
-        m += 1;
     }
 }
 
@@ -156,11 +113,9 @@ pub fn table(text: &[u8]) -> [bool; COVERS]
     let v = value(text, 0);
     truth[0] = v;
     let mut half: usize = 1;
-    let mut layer: u8 = 0;
-    while layer < LAYERS {
+    for layer in 0..LAYERS {
         add_layer(text, &mut truth, layer, half);
         half += half;
-        layer += 1;
     }
     truth
 }

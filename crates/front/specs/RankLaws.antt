@@ -4,20 +4,17 @@
 --   rank_test     the edges by ranks can be tested
 --   balanced, unbalanced   what the answers of the test say of the list
 --   balanced_says, unbalanced_says   what each answer says
-use Rattle.std.specs.Prelude.{◌≡◌, List, map, ℕ, ◌≤◌, ℤ, length}
+use Rattle.std.specs.Prelude.{◌≡◌, List, map, ℕ, ◌≤◌, ℤ, length, Result, Ok, Err}
 use Rattle.std.proofs.Common.{subst, arith}
 use Rattle.meaning.specs.Numbers.{limit}
 use Rattle.meaning.specs.Edges.{Edge, edges_of}
 use Rattle.basic_laws.specs.Sound.{lifted}
 use Rattle.axis.specs.Axes.{Axis, Ranks}
 use Rattle.lifting.specs.InSteps.{InSteps}
-use Rattle.closure.specs.declared.Closure.{Closure}
-use Rattle.closure.specs.declared.Closure.TheVariants.{Closed, Open}
+use Rattle.closure.specs.declared.Open.{Open}
 use Rattle.closure.specs.Testing.{TestOk, Tested}
 use Rattle.closure.specs.Closing.{test_ready, list_closed, list_least, list_open, open_low}
 use Rattle.closure.specs.OnlyOne.{marked_even}
-use Rattle.front.specs.declared.Ranked.{Ranked}
-use Rattle.front.specs.declared.Ranked.TheVariants.{Balanced, Unbalanced}
 use Rattle.front.specs.Ranking.{RankOk, InRanks, BalancedAs, UnbalancedAs, Ranking}
 
 module _ {ns : List ℤ} {layers₀ ys₀ xs₀ ends₀ vx₀ ws₀ room₀ : List ℕ} {n : ℕ} {c₀ : List ℕ} (K : RankOk ns layers₀ ys₀ xs₀ ends₀ vx₀ ws₀ room₀ n c₀)
@@ -38,17 +35,17 @@ module _ {ns : List ℤ} {layers₀ ys₀ xs₀ ends₀ vx₀ ws₀ room₀ : Li
   pub rank_test : TestOk layers ends n nx c₀
   rank_test = test_ready ns K.sound layers ys xs vx ends nx I A.ranked long_ends n c₀ within K.rows_few K.long K.fresh
 
-  module _ {c : List ℕ} (r : Closure) (T : Tested n layers ends c r) where
-    pub balanced : r ≡ Closed → Ranking ns layers ys xs ends vx n c₀ c (Balanced nx)
+  module _ {c : List ℕ} (r : Result (Unit {0}) Open) (T : Tested n layers ends c r) where
+    pub balanced : r ≡ Ok tt → Ranking ns layers ys xs ends vx n c₀ c (Ok nx)
     unfolding Ranking
     balanced e =
-        let t : Tested n layers ends c Closed = rw e at T in
+        let t : Tested n layers ends c (Ok tt) = rw e at T in
         record { ranks = in_ranks; closed = list_closed ns K.sound layers ys xs vx ends nx I A.ranked long_ends t.answer; still = marked_even rank_test t }
 
-    pub unbalanced : (x : ℕ) → r ≡ Open x → Ranking ns layers ys xs ends vx n c₀ c (Unbalanced x)
+    pub unbalanced : (x : ℕ) → r ≡ Err (record { rank = x }) → Ranking ns layers ys xs ends vx n c₀ c (Err (record { rank = x }))
     unfolding Ranking
     unbalanced x e =
-        let t : Tested n layers ends c (Open x) = rw e at T in
+        let t : Tested n layers ends c (Err (record { rank = x })) = rw e at T in
         record {
           nx = nx;
           ranks = in_ranks;
@@ -60,11 +57,11 @@ module _ {ns : List ℤ} {layers₀ ys₀ xs₀ ends₀ vx₀ ws₀ room₀ : Li
 
 -- ---- what the answers say
 
-module _ {ns : List ℤ} {layers ys xs ends vx : List ℕ} {n : ℕ} {c : List ℕ} {r : Ranked} (c₀ : List ℕ) (R : Ranking ns layers ys xs ends vx n c₀ c r) where
-  pub balanced_says : {nx : ℕ} → r ≡ Balanced nx → BalancedAs ns layers ys xs ends vx n nx c₀ c
+module _ {ns : List ℤ} {layers ys xs ends vx : List ℕ} {n : ℕ} {c : List ℕ} {r : Result ℕ Open} (c₀ : List ℕ) (R : Ranking ns layers ys xs ends vx n c₀ c r) where
+  pub balanced_says : {nx : ℕ} → r ≡ Ok nx → BalancedAs ns layers ys xs ends vx n nx c₀ c
   unfolding Ranking
   balanced_says e = rw e at R
 
-  pub unbalanced_says : {x : ℕ} → r ≡ Unbalanced x → UnbalancedAs ns layers ys xs ends vx n x c
+  pub unbalanced_says : {x : ℕ} → r ≡ Err (record { rank = x }) → UnbalancedAs ns layers ys xs ends vx n x c
   unfolding Ranking
   unbalanced_says e = rw e at R

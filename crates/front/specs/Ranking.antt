@@ -4,7 +4,7 @@
 --   InRanks ns .. nx       the columns have the edges in steps, and nx distinct x, ranked
 --   BalancedAs, UnbalancedAs   the list is closed, or not; then the x of the rank is the least column that is not balanced
 --   Ranking                what the answer says
-use Rattle.std.specs.Prelude.{◌≡◌, List, map, ℕ, ◌+◌, ◌*◌, ◌/◌, ◌<◌, ◌≤◌, ℤ, length, get_or}
+use Rattle.std.specs.Prelude.{◌≡◌, List, map, ℕ, ◌+◌, ◌*◌, ◌/◌, ◌<◌, ◌≤◌, ℤ, length, get_or, Result, Ok, Err}
 use Rattle.meaning.specs.Numbers.{limit}
 use Rattle.meaning.specs.Edges.{edges_of, Closed}
 use Rattle.basic_laws.specs.Sound.{SoundList, lifted}
@@ -13,8 +13,7 @@ use Rattle.lifting.specs.InSteps.{InSteps}
 use Rattle.marks.specs.Marks.{Marked}
 use Rattle.closure.specs.Testing.{edges_by}
 use Rattle.closure.specs.Balance.{OpenAt}
-use Rattle.front.specs.declared.Ranked.{Ranked}
-use Rattle.front.specs.declared.Ranked.TheVariants.{Balanced, Unbalanced}
+use Rattle.closure.specs.declared.Open.{Open}
 
 pub record RankOk (ns : List ℤ) (layers ys xs ends vx ws room : List ℕ) (n : ℕ) (c : List ℕ) : Type 0 where
   pub sound : SoundList 7 limit ns
@@ -49,6 +48,6 @@ pub record UnbalancedAs (ns : List ℤ) (layers ys xs ends vx : List ℕ) (n x :
   -- the marks of all edges
   pub marked : Marked n (edges_by layers ends) c
 
-unfoldable pub Ranking : List ℤ → List ℕ → List ℕ → List ℕ → List ℕ → List ℕ → ℕ → List ℕ → List ℕ → Ranked → Type 0
-Ranking ns layers ys xs ends vx n c₀ c (Balanced nx) = BalancedAs ns layers ys xs ends vx n nx c₀ c
-Ranking ns layers ys xs ends vx n c₀ c (Unbalanced x) = UnbalancedAs ns layers ys xs ends vx n x c
+unfoldable pub Ranking : List ℤ → List ℕ → List ℕ → List ℕ → List ℕ → List ℕ → ℕ → List ℕ → List ℕ → Result ℕ Open → Type 0
+Ranking ns layers ys xs ends vx n c₀ c (Ok nx) = BalancedAs ns layers ys xs ends vx n nx c₀ c
+Ranking ns layers ys xs ends vx n c₀ c (Err least) = UnbalancedAs ns layers ys xs ends vx n least.rank c

@@ -1,43 +1,47 @@
 // An edge list made ready for the sweep: in steps, its x ranked, and whether it is closed.
 #![tactic(auto)]
 
-ghost use Rattle.std.specs.Prelude.{map};
+ghost use Rattle.std.specs.Prelude.{◌≡◌, map, length};
 ghost use Rattle.meaning.specs.Numbers.{limit};
 ghost use Rattle.meaning.specs.Edges.{edges_of};
 ghost use Rattle.basic_laws.specs.Sound.{lifted};
 ghost use Rattle.front.specs.Ranking.{RankOk, Ranking};
 
-use closure::Closure;
+use closure::Open;
 
-// Balanced: the list is closed, and how many distinct x it has. Unbalanced: it is not, and the rank of the x at which it first is not, from the west.
-#[derive(Clone, Copy)]
-pub enum Ranked {
-    Balanced(usize),
-    Unbalanced(usize),
+// The columns of an edge list: in layers, ys and xs its edges in steps, in vx the distinct x, in ends the rank of each x. They are lent together.
+#[derive(Drop)]
+pub struct Columns<'a> {
+    pub layers: &'a mut [u8],
+    pub ys: &'a mut [u32],
+    pub xs: &'a mut [u32],
+    pub ends: &'a mut [u16],
+    pub vx: &'a mut [u32],
 }
 
-// The layers, the y and the x of the edges in steps; in vx the distinct x, in ends the rank of each x. c is fresh before, and again where the list is closed. What ws and
-// room hold at the end is of no use, nor what vx holds after the distinct x.
+// How many distinct x the list has, where it is closed; otherwise the rank of the x at which it first is not, from the west. The columns are made here.
+// c is fresh before, and again where the list is closed. What ws and room hold at the end is of no use, nor what vx holds after the distinct x.
 pub fn rank(
     edges: &[i32],
-    layers: &mut [u8],
-    ys: &mut [u32],
-    xs: &mut [u32],
-    ends: &mut [u16],
-    vx: &mut [u32],
+    columns: &mut Columns<'_>,
     ws: &mut [u64],
     room: &mut [u64],
     n: usize,
     c: &mut [u16],
-) -> Ranked
-    requires { RankOk edges.now layers.old ys.old xs.old ends.old vx.old ws.old room.old n c.old }
-    ensures { Ranking edges.now layers.new ys.new xs.new ends.new vx.new n c.old c.new result }
+) -> Result<usize, Open>
+    requires { RankOk edges.now columns.old.layers.now columns.old.ys.now columns.old.xs.now columns.old.ends.now columns.old.vx.now ws.old room.old n c.old }
+    ensures ranked { Ranking edges.now columns.new.layers.now columns.new.ys.now columns.new.xs.now columns.new.ends.now columns.new.vx.now n c.old c.new result }
+    ensures long_edges { (length columns.new.layers.now ≡ length columns.old.layers.now) × (length columns.new.ys.now ≡ length columns.old.ys.now) }
+    ensures long_ends { (length columns.new.xs.now ≡ length columns.old.xs.now) × (length columns.new.ends.now ≡ length columns.old.ends.now) × (length columns.new.vx.now ≡ length columns.old.vx.now) }
+    ensures lent { (columns.new.layers.ghost_name ≡ columns.old.layers.ghost_name) × (columns.new.ys.ghost_name ≡ columns.old.ys.ghost_name) × (columns.new.xs.ghost_name ≡ columns.old.xs.ghost_name) × (columns.new.ends.ghost_name ≡ columns.old.ends.ghost_name) × (columns.new.vx.ghost_name ≡ columns.old.vx.ghost_name) }
 {
+    let layers = &mut *columns.layers;
+    let ys = &mut *columns.ys;
+    let xs = &mut *columns.xs;
+    let ends = &mut *columns.ends;
+    let vx = &mut *columns.vx;
     lifting::lift(edges, layers, ys, xs);
     let nx = axis::ranked(xs, ws, room, vx, ends);
-    let shut = closure::test(layers, ends, n, nx, c);
-    match shut {
-        Closure::Closed => return Ranked::Balanced(nx),
-        Closure::Open(x) => return Ranked::Unbalanced(x),
-    }
+    closure::test(layers, ends, n, nx, c)?;
+    Ok(nx)
 }

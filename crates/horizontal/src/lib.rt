@@ -8,7 +8,7 @@ pub fn word(y: u32, from: usize, to: usize) -> u64
     requires { (y ≤ 2147483648) × (from < 8192) × (to < 8192) }
     ensures { result ≡ packed y from to }
 {
-    y as u64 * 67108864 + from as u64 * 8192 + to as u64
+    u64::from(y) * 67108864 + from as u64 * 8192 + to as u64
 }
 
 pub fn height(w: u64) -> u32
@@ -24,6 +24,7 @@ pub fn rank_from(w: u64) -> usize
     (w / 8192 % 8192) as usize
 }
 
+// The same sum as `words::place`, of a word of another make.
 pub fn rank_to(w: u64) -> usize
     ensures { (result ≡ to_of w) × (result < 8192) }
 {

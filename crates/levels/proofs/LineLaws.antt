@@ -21,7 +21,7 @@ use Rattle.strips.specs.Cover.{look}
 use Rattle.horizontal.specs.Words.{up_from, on_level, packed, word_of}
 use Rattle.horizontal.specs.Lines.{line_records}
 use Rattle.stretches.specs.declared.Stretch.{Stretch}
-use Rattle.stretches.specs.Stretches.{RowsIn, Told, NextIs}
+use Rattle.stretches.specs.Stretches.{RowsIn, Told, StretchIs, NoStretch}
 use Rattle.weights.specs.Weights.{Weighed, WeightOk}
 use Rattle.weights.specs.WeightLaws.{weigh_none, weigh_more}
 use Rattle.levels.specs.Line.{line_of, LineOk, LineRead}
@@ -197,53 +197,43 @@ module _ {loc₀ : List ℕ} {k y : ℕ} {vx told₀ covers : List ℕ} {truth :
     ahead : (q : ℕ) → r ≤ q → look truth told q ≡ look truth told₀ q
     ahead q u = ap (λ (c : ℕ). get_or truth c false) (S.leaves.same q (λ _ v. let z : ⊥ = omega arith in absurd z))
 
-    module _ {told' : List ℕ} {t : Stretch} (K : NextIs told told' covers truth r hi t) where
-      told_on : Told covers lo t.to told₀ told'
-      told_on = record {
-        long = K.leaves.long ∙ S.leaves.long;
-        made = λ q u v. go q u v (dec_lt q r);
-        same = λ q m. K.leaves.same q (λ u v. m (omega (arith, S.from)) v) ∙ S.leaves.same q (λ u v. m u (omega (arith, K.from, K.order)));
-      }
-        where
-          go : (q : ℕ) → lo ≤ q → q < t.to → Dec (q < r) → get_or told' q 0 ≡ get_or covers q 0
-          go q u v (yes w) = K.leaves.same q (λ x _. let z : ⊥ = omega arith in absurd z) ∙ S.leaves.made q u w
-          go q u v (no w) = K.leaves.made q (omega arith) v
+    told_on : {told' : List ℕ} {e : ℕ} → r ≤ e → Told covers r e told told' → Told covers lo e told₀ told'
+    told_on {told'} {e} h L = record {
+      long = L.long ∙ S.leaves.long;
+      made = λ q u v. go q u v (dec_lt q r);
+      same = λ q m. L.same q (λ u v. m (omega (arith, S.from)) v) ∙ S.leaves.same q (λ u v. m u (omega arith));
+    }
+      where
+        go : (q : ℕ) → lo ≤ q → q < e → Dec (q < r) → get_or told' q 0 ≡ get_or covers q 0
+        go q u v (yes w) = L.same q (λ x _. let z : ⊥ = omega arith in absurd z) ∙ S.leaves.made q u w
+        go q u v (no w) = L.made q (omega arith) v
 
-      pub ends_in : t.to < length vx
-      ends_in = omega (arith, K.to, ok.last)
-
-      pub starts_in : t.from < length vx
-      starts_in = omega (arith, K.order, K.to, ok.last)
-
+    module _ {told' : List ℕ} {t : Stretch} (K : StretchIs told told' covers truth r hi t) where
       -- a stretch has its x in order
       pub weight_ok : WeightOk y (get_or vx t.from 0) (get_or vx t.to 0)
-      weight_ok = record { place = ok.place; order = go (dec_lt t.from t.to); top = ok.each t.to }
-        where
-          go : Dec (t.from < t.to) → get_or vx t.from 0 ≤ get_or vx t.to 0
-          go (yes u) = omega (arith, rising_at zero vx t.from t.to ok.rising u ends_in)
-          go (no u) = let e : t.from ≡ t.to = omega (arith, K.order) in omega (arith, ap (λ (i : ℕ). get_or vx i 0) e)
+      weight_ok = record { place = ok.place; order = omega (arith, rising_at zero vx t.from t.to ok.rising K.some (omega (arith, K.to, ok.last))); top = ok.each t.to }
 
-      rest_turn : t.from < hi → rest_of y vx told₀ covers truth r ≡ record_on y t.from t.to t.inside ∷ rest_of y vx told₀ covers truth t.to
-      rest_turn l =
-          rest_keep ok r t.from K.from (omega arith) (λ q u v. sym (ahead q u) ∙ K.quiet q u v)
-          ∙ rest_stretch ok t.from t.to t.inside (K.some l) K.to (λ q u v. sym (ahead q (omega (arith, K.from))) ∙ K.was q u v) K.is
-          (λ h u v. K.stop h (ahead t.to (omega (arith, K.from, K.order)) ∙ u) v)
+      rest_turn : rest_of y vx told₀ covers truth r ≡ record_on y t.from t.to t.inside ∷ rest_of y vx told₀ covers truth t.to
+      rest_turn =
+          rest_keep ok r t.from K.from (omega (arith, K.some, K.to)) (λ q u v. sym (ahead q u) ∙ K.quiet q u v)
+          ∙ rest_stretch ok t.from t.to t.inside K.some K.to (λ q u v. sym (ahead q (omega (arith, K.from))) ∙ K.was q u v) K.is
+          (λ h u v. K.stop h (ahead t.to (omega (arith, K.from, K.some)) ∙ u) v)
 
-      pub read_turn : {w acc' : ℕ} → t.from < hi → w ≡ word_of (record_at 0 y (run t.from t.to (turn (not t.inside) t.inside))) →
+      pub read_turn : {w acc' : ℕ} → w ≡ word_of (record_at 0 y (run t.from t.to (turn (not t.inside) t.inside))) →
           Weighed acc (record_at 0 y (run (get_or vx t.from 0) (get_or vx t.to 0) (turn (not t.inside) t.inside)) ∷ []) acc' →
           Lining loc₀ k sum y vx told₀ covers truth lo hi (set loc n w) told' (n + 1) acc' t.to
-      read_turn {w} {acc'} l e v =
+      read_turn {w} {acc'} e v =
           let one : Record ℕ = record_on y t.from t.to t.inside in
           let count : length (S.found ++ one ∷ []) ≡ length S.found + 1 = length-append S.found (one ∷ []) in
           let place : n ≡ k + length (map word_of S.found) = S.number ∙ ap (◌+◌ k) (sym (length-map S.found word_of)) in
           record {
-            from = omega (arith, S.from, K.from, K.order);
+            from = omega (arith, S.from, K.from, K.some);
             to = K.to;
-            leaves = told_on;
+            leaves = told_on (omega (arith, K.from, K.some)) K.leaves;
             found = S.found ++ one ∷ [];
-            parts = S.parts ∙ ap (◌++◌ S.found) (rest_turn l) ∙ sym (append_assoc S.found (one ∷ []) (rest_of y vx told₀ covers truth t.to));
+            parts = S.parts ∙ ap (◌++◌ S.found) rest_turn ∙ sym (append_assoc S.found (one ∷ []) (rest_of y vx told₀ covers truth t.to));
             number = omega (arith, S.number);
-            few = omega (arith, S.few, K.from, K.some l);
+            few = omega (arith, S.few, K.from, K.some);
             wide = length-set loc n w ∙ S.wide;
             written =
                 ap (λ (i : ℕ). set loc i w) place
@@ -255,42 +245,40 @@ module _ {loc₀ : List ℕ} {k y : ℕ} {vx told₀ covers : List ℕ} {truth :
                 (weigh_more (map (on_level vx) S.found) (on_level vx one ∷ []) S.weighs (rw (on_level_is vx y t.from t.to t.inside) v));
           }
 
-      -- no stretch is left
-      pub read_quiet : t.from ≡ hi → Lining loc₀ k sum y vx told₀ covers truth lo hi loc told' n acc hi
-      read_quiet e =
-          let last : t.to ≡ hi = omega (arith, K.order, K.to) in
-          record {
-            from = omega (arith, S.from, S.to);
-            to = omega arith;
-            leaves = rw last at told_on;
-            found = S.found;
-            parts = S.parts ∙ ap (◌++◌ S.found) (rest_keep ok r hi S.to (omega arith) (λ q u v. sym (ahead q u) ∙ K.quiet q u (omega arith)));
-            number = S.number;
-            few = omega (arith, S.few, S.to);
-            wide = S.wide;
-            written = S.written;
-            weighs = S.weighs;
-          }
+    -- no stretch is left
+    read_quiet : {told' : List ℕ} → NoStretch told told' covers truth r hi → Lining loc₀ k sum y vx told₀ covers truth lo hi loc told' n acc hi
+    read_quiet K = record {
+      from = ok.order;
+      to = omega arith;
+      leaves = told_on S.to K.leaves;
+      found = S.found;
+      parts = S.parts ∙ ap (◌++◌ S.found) (rest_keep ok r hi S.to (omega arith) (λ q u v. sym (ahead q u) ∙ K.quiet q u v));
+      number = S.number;
+      few = omega (arith, S.few, S.to);
+      wide = S.wide;
+      written = S.written;
+      weighs = S.weighs;
+    }
 
-  pub read_done : {loc told : List ℕ} {n acc r : ℕ} → Lining loc₀ k sum y vx told₀ covers truth lo hi loc told n acc r → hi ≤ r →
-      LineRead loc₀ k sum vx covers (line_of y vx told₀ covers truth) loc told (record { count = n; sum = acc })
-  read_done {loc} {told} {n} {acc} {r} S h =
-      let e : r ≡ hi = omega (arith, S.to) in
-      let all : line_of y vx told₀ covers truth ≡ S.found = S.parts ∙ ap (λ (i : ℕ). S.found ++ rest_of y vx told₀ covers truth i) e ∙ ap (◌++◌ S.found) (rest_done ok) ∙ append-nil S.found in
+  pub read_done : {loc told told' : List ℕ} {n acc r : ℕ} → Lining loc₀ k sum y vx told₀ covers truth lo hi loc told n acc r → NoStretch told told' covers truth r hi →
+      LineRead loc₀ k sum vx covers (line_of y vx told₀ covers truth) loc told' (record { count = n; sum = acc })
+  read_done {loc} {told} {told'} {n} {acc} {r} P K =
+      let S = read_quiet P K in
+      let all : line_of y vx told₀ covers truth ≡ S.found = S.parts ∙ ap (◌++◌ S.found) (rest_done ok) ∙ append-nil S.found in
       let count : length (map word_of S.found) ≡ length S.found = length-map S.found word_of in
       rw all record {
-        all_told = ext_get_or 0 told covers (S.leaves.long ∙ ok.both) (λ q u. go q u (dec_lt q lo) (dec_lt q r));
+        all_told = ext_get_or 0 told' covers (S.leaves.long ∙ ok.both) (λ q u. go S.leaves q u (dec_lt q lo) (dec_lt q hi));
         written =
             S.written
-            ∙ sets-eq (map word_of S.found) loc₀ k (omega (arith, ok.room, S.few, S.to, ok.last))
+            ∙ sets-eq (map word_of S.found) loc₀ k (omega (arith, ok.room, S.few, ok.last))
             ∙ append_assoc (take k loc₀) (map word_of S.found) (drop (k + length (map word_of S.found)) loc₀)
             ∙ ap (λ (i : ℕ). take k loc₀ ++ (map word_of S.found ++ drop (k + i) loc₀)) count;
         number = S.number;
-        few = omega (arith, S.few, S.to, ok.last);
+        few = omega (arith, S.few, ok.last);
         weighs = S.weighs;
       }
     where
-      go : (q : ℕ) → q < length told → Dec (q < lo) → Dec (q < r) → get_or told q 0 ≡ get_or covers q 0
-      go q u (yes a) b = S.leaves.same q (λ w _. let z : ⊥ = omega arith in absurd z) ∙ ok.quiet q (omega (arith, S.leaves.long, ok.both)) (λ w _. let z : ⊥ = omega arith in absurd z)
-      go q u (no a) (yes b) = S.leaves.made q (omega arith) b
-      go q u (no a) (no b) = S.leaves.same q (λ _ w. b w) ∙ ok.quiet q (omega (arith, S.leaves.long, ok.both)) (λ _ w. let z : ⊥ = omega arith in absurd z)
+      go : Told covers lo hi told₀ told' → (q : ℕ) → q < length told' → Dec (q < lo) → Dec (q < hi) → get_or told' q 0 ≡ get_or covers q 0
+      go L q u (no a) (yes b) = L.made q (omega arith) b
+      go L q u (yes a) b = L.same q (λ w _. let z : ⊥ = omega arith in absurd z) ∙ ok.quiet q (omega (arith, L.long, ok.both)) (λ w _. let z : ⊥ = omega arith in absurd z)
+      go L q u (no a) (no b) = L.same q (λ _ w. b w) ∙ ok.quiet q (omega (arith, L.long, ok.both)) (λ _ w. b w)

@@ -15,7 +15,7 @@ pub struct Reading {
     pub sum: u64,
 }
 
-// The word of the stretch at y between two ranks: one that came inside goes west, one that went out goes east.
+// The word of the stretch at y between two ranks: one that came inside goes west, one that went out goes east. The flag is the stretch's own.
 fn directed(y: u32, from: usize, to: usize, inside: bool) -> u64
     requires { (y ≤ 2147483648) × (from < 8192) × (to < 8192) }
     ensures { result ≡ word_of (record_at 0 y (run from to (turn (not inside) inside))) }
@@ -27,7 +27,7 @@ fn directed(y: u32, from: usize, to: usize, inside: bool) -> u64
 }
 
 // The records of the line at y, from record number k on, each as a word, and the sum with their weights. Only strips from lo on, below hi, have
-// another cover than at the last line; then all are told. Cost: these strips.
+// another cover than at the last line; then all are told. Cost: these strips. Ten parameters: a whole `Sweep` would ask for edges too.
 pub fn read(
     loc: &mut [u64],
     k: usize,
@@ -46,17 +46,11 @@ pub fn read(
     let mut n = k;
     let mut acc = sum;
     let mut r = lo;
-    while r < hi {
-        let s = stretches::next(told, covers, truth, r, hi);
-        let from = s.from;
-        let to = s.to;
-        if from == hi {
-            return Reading { count: n, sum: acc };
-        }
-        loc[n] = directed(y, from, to, s.inside);
-        acc = weights::weighed(acc, y, vx[from], vx[to], s.inside);
+    while let Some(s) = stretches::next(told, covers, truth, r, hi) {
+        loc[n] = directed(y, s.from, s.to, s.inside);
+        acc = weights::weighed(acc, y, vx[s.from], vx[s.to], s.inside);
         n += 1;
-        r = to;
+        r = s.to;
     }
     Reading { count: n, sum: acc }
 }

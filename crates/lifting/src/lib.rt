@@ -7,25 +7,19 @@ ghost use Rattle.meaning.specs.Edges.{edges_of};
 ghost use Rattle.basic_laws.specs.Sound.{SoundList, lifted};
 ghost use Rattle.lifting.specs.InSteps.{InSteps};
 
-fn byte(layer: u32) -> u8
-    requires { layer < 8 }
-    ensures { result ≡ layer }
-{
-    layer as u8
-}
+use edge::Record;
 
-// The layer and the y of each edge, and its from and its to side by side in xs.
+// The layer and the y of each edge, and its from and its to side by side in xs: columns, and no list of edges, since sorting and sweep go along one of them, in vector code.
 pub fn lift(edges: &[i32], layers: &mut [u8], ys: &mut [u32], xs: &mut [u32])
     requires sound_list { SoundList 7 limit edges.now }
     requires layers_len { (length layers.old ≡ length edges.now / 4) × (length ys.old ≡ length edges.now / 4) × (length xs.old ≡ length edges.now / 4 + length edges.now / 4) }
     ensures { InSteps (map (lifted limit) (edges_of edges.now)) layers.new ys.new xs.new }
 {
-    let mut k = 0;
-    while k < layers.len() {
-        layers[k] = byte(edge::layer(edges, k));
-        ys[k] = edge::coordinate(edges, k, 1);
-        xs[k + k] = edge::coordinate(edges, k, 2);
-        xs[k + k + 1] = edge::coordinate(edges, k, 3);
-        k += 1;
+    for k in 0..layers.len() {
+        let edge = Record::at(edges, k).in_steps();
+        layers[k] = edge.layer;
+        ys[k] = edge.y;
+        xs[k + k] = edge.from;
+        xs[k + k + 1] = edge.to;
     }
 }

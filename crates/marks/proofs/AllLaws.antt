@@ -1,9 +1,9 @@
 -- The loop over the layers: those below k are summed up. Assumes nothing.
 --
---   passed-in, passed_out   a pass over the places of one layer, strip by strip
+--   passed_out   a pass over the places of one layer, strip by strip
 --   run_same                the sums of a layer's marks are of that layer's marks only
 --   covered_on              a layer summed up leaves each cover with the digits of its counts
---   all_start, all_layer, all_turn, all_done   the loop
+--   all_layer, all_turn   the loop
 use mathlib.Core.Path.{◌≡◌, refl, sym, ap, ap₂, ◌∙◌}
 use mathlib.Core.List.{List}
 use Prim.Native.Nat.{ℕ, zero, suc, ◌+◌, ◌*◌, ◌-◌, ◌<◌, ◌≤◌}
@@ -82,22 +82,6 @@ pub record SummingAll (n a b k : ℕ) (c₀ c m₀ m d₀ d : List ℕ) : Type 0
   pub to : k ≤ 8
   pub summed : SummedBelow n a b k c₀ c m₀ m d₀ d
 
-pub all_start : {n a b : ℕ} {c m d : List ℕ} → AllOk n a b c m d → SummingAll n a b 0 c c m m d d
-all_start ok = record {
-  to = omega arith;
-  summed = record {
-    long = refl;
-    long_covers = refl;
-    long_marks = refl;
-    counts = λ l r h _ _. let z : ⊥ = omega arith in absurd z;
-    still = λ l r _ _ _. refl;
-    covered = ok.covered;
-    still_covers = λ r _. refl;
-    marks = λ l r h _ _. let z : ⊥ = omega arith in absurd z;
-    still_marks = λ l r _ _ _. refl;
-  };
-}
-
 module _ {n a b k : ℕ} {c₀ c m₀ m d₀ d : List ℕ} (ok : AllOk n a b c₀ m₀ d₀) (S : SummingAll n a b k c₀ c m₀ m d₀ d) (h : k < 8) where
   mark_old : (r : ℕ) → r < n → row_at n d k r ≡ row_at n d₀ k r
   mark_old r hr = S.summed.still_marks k r h hr (λ u _ _. let z : ⊥ = omega arith in absurd z)
@@ -154,6 +138,3 @@ module _ {n a b k : ℕ} {c₀ c m₀ m d₀ d : List ℕ} (ok : AllOk n a b c�
       marks : (l r : ℕ) → l < k + 1 → a ≤ r → r ≤ b → Dec (l ≡ k) → row_at n d' l r ≡ 8192
       marks l r u v w (yes e) = rw e (mark_in all_layer T r v w)
       marks l r u v w (no e) = mark_out all_layer T l r (omega (arith, top)) (λ q _ _. e q) ∙ S.summed.marks l r (omega arith) v w
-
-pub all_done : {n a b k : ℕ} {c₀ c m₀ m d₀ d : List ℕ} → SummingAll n a b k c₀ c m₀ m d₀ d → 8 ≤ k → SummedBelow n a b 8 c₀ c m₀ m d₀ d
-all_done {n} {a} {b} {k} S h = let e : k ≡ 8 = omega (arith, S.to) in rw e at S.summed

@@ -1,4 +1,4 @@
--- What `mark` needs, and what the loop of `sum_up` keeps. Assumes nothing.
+-- What the loop of `sum_up` keeps. Assumes nothing.
 use mathlib.Core.Path.{◌≡◌, refl, ap₂, ◌∙◌}
 use mathlib.Core.List.{List}
 use Prim.Native.Nat.{ℕ, suc, ◌+◌, ◌*◌, ◌-◌, ◌<◌, ◌≤◌}
@@ -12,16 +12,7 @@ use Rattle.meaning.specs.Edges.{covers}
 use Rattle.strips.specs.Rows.{row_at, layer_fits}
 use Rattle.strips.specs.Cover.{turned_to, Passed}
 use Rattle.strips.specs.Strips.{taken_over, Taken, TakeOk}
-use Rattle.marks.specs.Marks.{less_at, run_to, SumOk, SummedTo, Summed}
-
--- ---- `mark`
-
-pub mark_room : (d : List ℕ) (p q : ℕ) → p < length d → get_or d q 0 < 65535 → get_or (less_at p d) q 0 + 1 < 65536
-mark_room d p q h g = go (ℕ_discrete q p)
-  where
-    go : Dec (q ≡ p) → get_or (less_at p d) q 0 + 1 < 65536
-    go (yes e) = let f : get_or d p 0 < 65535 = rw (← e) g in rw e (omega (arith, f, get_or-set_same d p (get_or d p 0 - 1) 0 h))
-    go (no e) = omega (arith, get_or-set_other d p q (get_or d p 0 - 1) 0 e)
+use Rattle.marks.specs.Marks.{run_to, SumOk, SummedTo}
 
 -- ---- passes
 
@@ -92,12 +83,6 @@ module _ {n l a b r w : ℕ} {c₀ c m₀ m d₀ d : List ℕ} (ok : SumOk n l a
   unfolding run_to
   new_is = rw (back, d_old, S.w_is)
 
-  pub w_enough : 8192 ≤ w + row_at n d l r
-  w_enough = omega (arith, S.w_is, d_old, rw back at (ok.run_enough (r - a) (omega (arith, back))))
-
-  pub w_fits : w + row_at n d l r < 65536
-  w_fits = omega (arith, S.w_is, d_old, rw back at (ok.run_fits (r - a) (omega (arith, back))))
-
   pub sum_takes : TakeOk n l r (r + 1) (taken_over w (row_at n d l r)) c m
   sum_takes = record {
     long = S.long;
@@ -131,13 +116,3 @@ module _ {n l a b r w : ℕ} {c₀ c m₀ m d₀ d : List ℕ} (ok : SumOk n l a
           marks = pass_on _ _ (l * n + a) (l * n + r) (l * n + (r + 1)) d₀ d _ S.summed.marks (pass_set 8192 (l * n + r) (l * n + (r + 1)) d (omega (arith, S.long_d, S.layer, S.top)) (omega arith)) (omega (arith, S.from)) (omega arith) refl;
         };
       }
-
-pub sum_done : {n l a b r w : ℕ} {c₀ c m₀ m d₀ d : List ℕ} → Summing n l a b r w c₀ c m₀ m d₀ d → b ≤ r → Summed n l a b c₀ c m₀ m d₀ (set d (l * n + b) 8192)
-sum_done {n} {l} {a} {b} {r} {w} {c₀} {c} {m₀} {m} {d₀} {d} S g =
-    let e : r ≡ b = omega (arith, S.to) in
-    let T : SummedTo n l a b c₀ c m₀ m d₀ d (l * n + b) = rw e at S.summed in
-    record {
-      counts = T.counts;
-      digits = T.digits;
-      marks = pass_on _ _ (l * n + a) (l * n + b) (l * n + b + 1) d₀ d _ T.marks (pass_set 8192 (l * n + b) (l * n + b + 1) d (omega (arith, S.long_d, S.layer, S.top)) refl) (omega (arith, S.from)) refl refl;
-    }

@@ -4,7 +4,7 @@
 --   Marked n es d          of each layer and rank, d has 8,192 and the edges of es that end there less those that start there
 --   marked_by n l f t d     the marks with those of one edge more
 --   FreshMarks n d         no edge is marked: every mark is 8,192
---   unlike_to d p k         how many of the k marks from p on are not fresh
+--   not_fresh x            the mark x is not 8,192
 --   run_to n d l a k        the marks of k ranks from a on, summed up
 --   SumOk, Summed          before and after `sum_up`, one layer
 --   Between a b es         every end of an edge of es is from a on and at most b: a test that no such edge passes counts none
@@ -51,12 +51,8 @@ pub record FreshMarks (n : ℕ) (d : List ℕ) : Type 0 where
   pub long : length d ≡ 8 * n
   pub fresh : (p : ℕ) → p < 8 * n → get_or d p 0 ≡ 8192
 
-abbrev pub unlike_of : ℕ → ℕ
-unlike_of x = bit (not (eqb x 8192))
-
-unfoldable pub unlike_to : List ℕ → ℕ → ℕ → ℕ
-unlike_to d p zero = 0
-unlike_to d p (suc k) = unlike_to d p k + unlike_of (get_or d (p + k) 0)
+abbrev pub not_fresh : ℕ → Bool
+not_fresh x = not (eqb x 8192)
 
 -- ---- one layer
 

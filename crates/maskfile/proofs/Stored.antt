@@ -16,7 +16,9 @@ use lib.IntN.{ℤ, pos, negsuc, nat_abs, sub_ℕ, ◌+ℤ◌, ◌-ℤ◌}
 use borrow.Author.Tests.{eq-eqb, ne_eqb, eqb-true, ltb-true, ltb-false}
 use Rattle.basic_laws.specs.Signed.{key_of}
 use Rattle.meaning.specs.Numbers.{pick, limit}
-use Rattle.meaning.specs.Answers.{ends_inside, bad_number}
+use Rattle.std.specs.Prelude.{Some, None, Err}
+use Rattle.answers.specs.declared.Refusal.{Refusal}
+use Rattle.answers.specs.declared.Refusal.TheVariants.{EndsInside, BadNumber}
 use Rattle.meaning.specs.Rings.{xs, ys}
 use Rattle.meaning.specs.MaskFile.{most, five, signed}
 use Rattle.meaning.specs.Faults.{Begun, at_layer, at_count, at_x, at_y, previous, Stores, IsCoordinate}
@@ -24,13 +26,11 @@ use Rattle.ring_laws.specs.Groups.{Front, cut, bad, number, front, clash, front_
 use Rattle.ring_laws.specs.Differences.{unsigned, signed_unsigned, difference_back, within_range}
 use Rattle.ring_laws.specs.Beginnings.{Good}
 use Rattle.ring_laws.specs.Forms.{previous_size, range_xs, range_ys}
-use Rattle.numbers.specs.Reading.{refuse, number_of, reading}
-use Rattle.numbers.specs.declared.Reading.{Reading}
-use Rattle.numbers.specs.declared.Reading.TheVariants.{Value, Refused}
+use Rattle.numbers.specs.Reading.{Reading, Value, reading}
 use Rattle.rings.specs.State.{is_coordinate, fault_of, judged_as}
 use Rattle.reading_laws.specs.StateOf.{state_of, keyed}
 use Rattle.rings.specs.declared.State.{State}
-use Rattle.reading_laws.specs.Judging.{judged_value, judged_refused}
+use Rattle.reading_laws.specs.Judging.{same_read, judged_value, judged_refused}
 use Rattle.reading_laws.specs.Standing.{Natural, zero_in}
 use Rattle.maskfile.specs.Due.{moved, value_of, minus_zero, due_in_file}
 
@@ -115,7 +115,7 @@ pub record Taken (s : State) (at : ℕ) (fr : Front) (v next : ℕ) : Type 0 whe
   pub count : ℕ
   pub front : fr ≡ number stored count
   pub whole : minus_zero s.due stored ≡ false
-  pub fine : fault_of limit s (value_of s stored) ≡ 0
+  pub fine : fault_of limit s (value_of s stored) ≡ None
   pub value : v ≡ value_of s stored
   pub place : next ≡ at + count
 
@@ -127,41 +127,41 @@ taken len s at (number m c) r v next e q = go (minus_zero s.due m) refl
   where
     go : (t : Bool) → minus_zero s.due m ≡ t → Taken s at (number m c) v next
     go true w =
-        let x : refuse (bad_number at) ≡ Value v next = sym (ap (λ (t : Bool). pick t (refuse (bad_number at)) (judged_as limit s (value_of s m) at (at + c))) w) ∙ sym e ∙ q in
+        let x : Err (BadNumber at) ≡ Value v next = sym (ap (λ (t : Bool). pick t (Err (BadNumber at)) (judged_as limit s (value_of s m) at (at + c))) w) ∙ sym e ∙ q in
         clash (cc)
     go false w =
-        let x = judged_value limit s (value_of s m) at (at + c) v next (sym (ap (λ (t : Bool). pick t (refuse (bad_number at)) (judged_as limit s (value_of s m) at (at + c))) w) ∙ sym e ∙ q) in
+        let x = judged_value limit s (value_of s m) at (at + c) v next (sym (ap (λ (t : Bool). pick t (Err (BadNumber at)) (judged_as limit s (value_of s m) at (at + c))) w) ∙ sym e ∙ q) in
         record { stored = m; count = c; front = refl; whole = w; fine = x.0; value = x.1.0; place = x.1.1 }
 
--- the refusal n with the value p, by what stands at the front
-pub data Left (len : ℕ) (s : State) (at : ℕ) (fr : Front) (n p : ℕ) : Type 0 where
-  absent : fr ≡ cut → n ≡ number_of ends_inside → p ≡ len → Left len s at fr n p
-  malformed : fr ≡ bad → n ≡ number_of bad_number → p ≡ at → Left len s at fr n p
-  minus : (m c : ℕ) → fr ≡ number m c → minus_zero s.due m ≡ true → n ≡ number_of bad_number → p ≡ at → Left len s at fr n p
-  faulty : (m c : ℕ) → fr ≡ number m c → minus_zero s.due m ≡ false → (fault_of limit s (value_of s m) ≡ 0 → ⊥) → n ≡ fault_of limit s (value_of s m) → p ≡ at → Left len s at fr n p
+-- the refusal f, by what stands at the front
+pub data Left (len : ℕ) (s : State) (at : ℕ) (fr : Front) (f : Refusal) : Type 0 where
+  absent : fr ≡ cut → f ≡ EndsInside len → Left len s at fr f
+  malformed : fr ≡ bad → f ≡ BadNumber at → Left len s at fr f
+  minus : (m c : ℕ) → fr ≡ number m c → minus_zero s.due m ≡ true → f ≡ BadNumber at → Left len s at fr f
+  faulty : (m c : ℕ) → fr ≡ number m c → minus_zero s.due m ≡ false → (g : ℕ → Refusal) → fault_of limit s (value_of s m) ≡ Some g → f ≡ g at → Left len s at fr f
 
-pub left : (len : ℕ) (s : State) (at : ℕ) (fr : Front) (r : Reading) (n p : ℕ) → r ≡ due_in_file len s at fr → r ≡ Refused n p → Left len s at fr n p
+pub left : (len : ℕ) (s : State) (at : ℕ) (fr : Front) (r : Reading) (f : Refusal) → r ≡ due_in_file len s at fr → r ≡ Err f → Left len s at fr f
 unfolding due_in_file
-left len s at cut r n p e q = let w : refuse (ends_inside len) ≡ Refused n p = sym e ∙ q in absent refl (cc) (cc)
-left len s at bad r n p e q = let w : refuse (bad_number at) ≡ Refused n p = sym e ∙ q in malformed refl (cc) (cc)
-left len s at (number m c) r n p e q = go (minus_zero s.due m) refl
+left len s at cut r f e q = absent refl (cc)
+left len s at bad r f e q = malformed refl (cc)
+left len s at (number m c) r f e q = go (minus_zero s.due m) refl
   where
-    go : (t : Bool) → minus_zero s.due m ≡ t → Left len s at (number m c) n p
+    go : (t : Bool) → minus_zero s.due m ≡ t → Left len s at (number m c) f
     go true w =
-        let x : refuse (bad_number at) ≡ Refused n p = sym (ap (λ (t : Bool). pick t (refuse (bad_number at)) (judged_as limit s (value_of s m) at (at + c))) w) ∙ sym e ∙ q in
-        minus m c refl w (cc) (cc)
+        let x : Err (BadNumber at) ≡ Err f = sym (ap (λ (t : Bool). pick t (Err (BadNumber at)) (judged_as limit s (value_of s m) at (at + c))) w) ∙ sym e ∙ q in
+        minus m c refl w (cc)
     go false w =
-        let x = judged_refused limit s (value_of s m) at (at + c) n p (sym (ap (λ (t : Bool). pick t (refuse (bad_number at)) (judged_as limit s (value_of s m) at (at + c))) w) ∙ sym e ∙ q) in
-        faulty m c refl w x.0 x.1.0 x.1.1
+        let x = judged_refused limit s (value_of s m) at (at + c) f (sym (ap (λ (t : Bool). pick t (Err (BadNumber at)) (judged_as limit s (value_of s m) at (at + c))) w) ∙ sym e ∙ q) in
+        faulty m c refl w x.0 x.1 x.2
 
 -- ---- the code's own steps, after the number r was read
 
 module _ (len : ℕ) (s : State) (at : ℕ) (bs : List ℕ) (r : Reading) (e : r ≡ reading len at at (front five bs)) where
-  pub due_refused : (n p : ℕ) → r ≡ Refused n p → r ≡ due_in_file len s at (front five bs)
+  pub due_refused : (f : Refusal) → r ≡ Err f → r ≡ due_in_file len s at (front five bs)
   unfolding reading due_in_file
-  due_refused n p q = e ∙ go (front five bs) (sym e ∙ q)
+  due_refused f q = e ∙ go (front five bs) (sym e ∙ q)
     where
-      go : (fr : Front) → reading len at at fr ≡ Refused n p → reading len at at fr ≡ due_in_file len s at fr
+      go : (fr : Front) → reading len at at fr ≡ Err f → reading len at at fr ≡ due_in_file len s at fr
       go cut w = refl
       go bad w = refl
       go (number m c) w = clash (cc)
@@ -174,12 +174,12 @@ module _ (len : ℕ) (s : State) (at : ℕ) (bs : List ℕ) (r : Reading) (e : r
         go : (fr : Front) → front five bs ≡ fr → reading len at at fr ≡ Value n next → (count : ℕ) × (front five bs ≡ number n count) × (next ≡ at + count)
         go cut x w = clash (cc)
         go bad x w = clash (cc)
-        go (number m c) x w = let i : m ≡ n = cc in (c, x ∙ ap (λ (k : ℕ). number k c) i, cc)
+        go (number m c) x w = let i = same_read m (at + c) n next w in (c, x ∙ ap (λ (k : ℕ). number k c) i.0, sym i.1)
 
     pub stored_below : n < most five
     stored_below = (front_bounds five bs n stands.0 stands.1).0
 
-    pub due_minus : minus_zero s.due n ≡ true → refuse (bad_number at) ≡ due_in_file len s at (front five bs)
+    pub due_minus : minus_zero s.due n ≡ true → Err (BadNumber at) ≡ due_in_file len s at (front five bs)
     unfolding due_in_file
     due_minus t = rw (stands.1, t)
 

@@ -16,11 +16,14 @@ use lib.Dec.{lit≤}
 use lib.Signed.{mag}
 use lib.IntN.{ℤ}
 use lib.ListN.{length, drop, set, length-append, length-drop, drop_of_length-le}
-use lib.Seq.{sets, length-sets, get_or-drop}
+use lib.Seq.{sets, get_or-drop}
 use Rattle.basic_laws.specs.Signed.{key_of, unkey_of, key_fits, unkey_key}
 use Rattle.basic_laws.specs.Stores.{sets_snoc, left_over}
 use Rattle.meaning.specs.Numbers.{limit}
-use Rattle.meaning.specs.Answers.{Answer, answer, ends_inside}
+use Rattle.std.specs.Prelude.{None, Err}
+use Rattle.answers.specs.Told.{answer_of}
+use Rattle.answers.specs.declared.Refusal.{Refusal}
+use Rattle.answers.specs.declared.Refusal.TheVariants.{EndsInside, BadNumber}
 use Rattle.meaning.specs.Rings.{pairs_in}
 use Rattle.meaning.specs.MaskFile.{spelt, five, Stands, Cut, NotShortest, TooLong}
 use Rattle.meaning.specs.Faults.{Begun, at_layer, at_count, at_x, at_y, after, Begins, nothing, more, FileSpells, ListSpells, IsCoordinate, DueJudged, Absent, Malformed, DueInFile, RingFault}
@@ -28,9 +31,7 @@ use Rattle.ring_laws.specs.Groups.{number, front, Bytes, Found, clash, number_fr
 use Rattle.ring_laws.specs.Beginnings.{Fine, fine_x, fine_y, fine_layer, fine_count, count_few, Good, good_begins, length_snoc}
 use Rattle.ring_laws.specs.Forms.{file_begins, list_begins}
 use Rattle.ring_laws.specs.Meet.{stands_front}
-use Rattle.numbers.specs.Reading.{refuse}
-use Rattle.numbers.specs.declared.Reading.{Reading}
-use Rattle.numbers.specs.declared.Reading.TheVariants.{Value, Refused}
+use Rattle.numbers.specs.Reading.{Reading, Value}
 use Rattle.rings.specs.State.{start, may_end, fault_of, next_of, Sane}
 use Rattle.reading_laws.specs.StateOf.{state_of, keyed}
 use Rattle.reading_laws.specs.OutcomeLaws.{refuses, refuses_read}
@@ -97,9 +98,6 @@ module _ (f : List ℕ) (out₀ : List ℤ) (s : State) (at n : ℕ) (out : List
   pub reads_sane : Sane s
   reads_sane = subst⁻¹ Sane w.state (sane w.begun good)
 
-  pub reads_long : length out ≡ length out₀
-  reads_long = ap length w.wrote ∙ length-sets out₀ 0 w.numbers
-
   -- ---- one number further
 
   module _ (r : Reading) (v next : ℕ) (e : r ≡ due_in_file (length f) s at (front five (drop at f))) (q : r ≡ Value v next) where
@@ -116,12 +114,12 @@ module _ (f : List ℕ) (out₀ : List ℤ) (s : State) (at n : ℕ) (out : List
     unfolding z
     keyed_value = got.value ∙ ap (λ (t : State). value_of t got.stored) w.state ∙ value_keyed w.begun got.stored good plain
 
-    pub reads_fault : fault_of limit s v ≡ 0
+    pub reads_fault : fault_of limit s v ≡ None
     reads_fault = ap (fault_of limit s) got.value ∙ got.fine
 
     z_fine : Fine limit w.begun z
     unfolding z
-    z_fine = (verdict limit (lit≤ tt) w.begun z 0 good (meant_natural w.begun got.stored)).fine (subst (λ (x : ℕ). fault_of limit (state_of w.begun) x ≡ 0) keyed_value (subst (λ (t : State). fault_of limit t v ≡ 0) w.state reads_fault))
+    z_fine = (verdict limit (lit≤ tt) w.begun z 0 good (meant_natural w.begun got.stored)).fine (subst (λ (x : ℕ). fault_of limit (state_of w.begun) x ≡ None) keyed_value (subst (λ (t : State). fault_of limit t v ≡ None) w.state reads_fault))
 
     z_mag : mag z < 2147483648
     z_mag = fine_mag w.begun z z_fine
@@ -169,10 +167,13 @@ module _ (f : List ℕ) (out₀ : List ℤ) (s : State) (at n : ℕ) (out : List
 
   -- ---- a refusal
 
-  module _ (r : Reading) (m p : ℕ) (h : Bytes f) (lt : at < length f) (e : r ≡ due_in_file (length f) s at (front five (drop at f))) (q : r ≡ Refused m p) where
-    due : DueInFile five limit w.begun (drop at f) (length w.front) (length f) (answer m p)
-    due = go (left (length f) s at (front five (drop at f)) r m p e q)
+  module _ (r : Reading) (g : Refusal) (h : Bytes f) (lt : at < length f) (e : r ≡ due_in_file (length f) s at (front five (drop at f))) (q : r ≡ Err g) where
+    due : DueInFile five limit w.begun (drop at f) (length w.front) (length f) (answer_of g)
+    due = go (left (length f) s at (front five (drop at f)) r g e q)
       where
+        due_as : (u : Refusal) → g ≡ u → DueInFile five limit w.begun (drop at f) (length w.front) (length f) (answer_of u) → DueInFile five limit w.begun (drop at f) (length w.front) (length f) (answer_of g)
+        due_as u i = subst⁻¹ (λ (a : Refusal). DueInFile five limit w.begun (drop at f) (length w.front) (length f) (answer_of a)) i
+
         some_left : drop at f ≡ [] → ⊥
         some_left x = omega (arith, ap length x, length-drop at f)
 
@@ -185,17 +186,19 @@ module _ (f : List ℕ) (out₀ : List ℤ) (s : State) (at n : ℕ) (out : List
         not_bad : (v c : ℕ) → front five (drop at f) ≡ number v c → TooLong five (drop at f) ⊎ NotShortest five (drop at f) → ⊥
         not_bad v c x y = clash (cc (x, front_bad five (drop at f) y))
 
-        go : Left (length f) s at (front five (drop at f)) m p → DueInFile five limit w.begun (drop at f) (length w.front) (length f) (answer m p)
-        go (absent x y u) = rw (y, u) (inl ((cut_front five (drop at f) x, λ d z. some_left z), refl))
-        go (malformed x y u) = inr (λ a j. clash (cc (x, front_cut five (drop at f) j.0.0)), inl (either (bad_front five (drop at f) x), ap₂ answer y (u ∙ w.place)))
+        go : Left (length f) s at (front five (drop at f)) g → DueInFile five limit w.begun (drop at f) (length w.front) (length f) (answer_of g)
+        go (absent x y) = rw y (inl ((cut_front five (drop at f) x, λ d z. some_left z), refl))
+        go (malformed x y) =
+            due_as (BadNumber (length w.front)) (y ∙ ap BadNumber w.place)
+            (inr (λ a j. clash (cc (x, front_cut five (drop at f) j.0.0)), inl (either (bad_front five (drop at f) x), refl)))
           where
             either : TooLong five (drop at f) ⊎ NotShortest five (drop at f) → Malformed five w.begun (drop at f)
             either (inl t) = inl t
             either (inr t) = inr (inl t)
-        go (minus v c x z y u) =
+        go (minus v c x z y) =
             let d = coordinate_due w.begun v (subst (λ (t : State). minus_zero t.due v ≡ true) w.state z) in
-            inr (λ a j. not_absent v c x j.0, inl (inr (inr (d.0, subst (λ (k : ℕ). Stands five k (drop at f)) d.1 (number_due v c x))), ap₂ answer y (u ∙ w.place)))
-        go (faulty v c x z g y u) =
+            due_as (BadNumber (length w.front)) (y ∙ ap BadNumber w.place) (inr (λ a j. not_absent v c x j.0, inl (inr (inr (d.0, subst (λ (k : ℕ). Stands five k (drop at f)) d.1 (number_due v c x))), refl)))
+        go (faulty v c x z k i y) =
             inr (λ a j. not_absent v c x j.0, inr (λ a j. not_malformed j.0, record { number = v; z = meant w.begun v; stands = number_due v c x; means = meant_means w.begun v here; judged = judged }))
           where
             here : minus_zero (state_of w.begun).due v ≡ false
@@ -212,14 +215,14 @@ module _ (f : List ℕ) (out₀ : List ℤ) (s : State) (at n : ℕ) (out : List
                 let i : v ≡ 1 = cc in
                 true≢false (sym (coordinate_minus w.begun t.0) ∙ subst (λ (j : ℕ). minus_zero (state_of w.begun).due j ≡ false) i here)
 
-            judged : DueJudged limit w.begun (meant w.begun v) (length w.front) (answer m p)
+            judged : DueJudged limit w.begun (meant w.begun v) (length w.front) (answer_of g)
             judged =
-                subst⁻¹ (λ (a : Answer). DueJudged limit w.begun (meant w.begun v) (length w.front) a) (ap₂ answer (y ∙ fault_is) (u ∙ w.place))
-                ((verdict limit (lit≤ tt) w.begun (meant w.begun v) (length w.front) good (meant_natural w.begun v)).refused (λ i. g (fault_is ∙ i)))
+                subst⁻¹ (λ (a : Refusal). DueJudged limit w.begun (meant w.begun v) (length w.front) (answer_of a)) (y ∙ ap k w.place)
+                ((verdict limit (lit≤ tt) w.begun (meant w.begun v) (length w.front) good (meant_natural w.begun v)).refused k (sym fault_is ∙ i))
 
     pub reads_refused : (after-out : List ℤ) → RingsOutcome f out₀ r after-out
     reads_refused after-out =
-        inl (refuses_read (RingFault five limit f) r m p q (record { begun = w.begun; front = w.front; rest = drop at f; is = w.is; begins = w.file; due = due }))
+        inl (refuses_read (RingFault five limit f) r g q (record { begun = w.begun; front = w.front; rest = drop at f; is = w.is; begins = w.file; due = due }))
 
   -- ---- the end
 
@@ -242,6 +245,6 @@ module _ (f : List ℕ) (out₀ : List ℤ) (s : State) (at n : ℕ) (out : List
         go (at_x rs l k ps) q t = absurd (false≢true t)
         go (at_y rs l k ps x) q t = absurd (false≢true t)
 
-    pub reads_short : may_end s.due ≡ false → RingsOutcome f out₀ (refuse (ends_inside (length f))) out
+    pub reads_short : may_end s.due ≡ false → RingsOutcome f out₀ (Err (EndsInside (length f))) out
     reads_short e =
-        inl (refuses (RingFault five limit f) (ends_inside (length f)) (record { begun = w.begun; front = w.front; rest = drop at f; is = w.is; begins = w.file; due = inl ((subst⁻¹ (Cut five) nothing_left (record { continued = tt; short = lit≤ tt }), λ d z. not_end w.begun d (subst (λ (t : State). may_end t.due ≡ false) w.state e)), refl) }))
+        inl (refuses (RingFault five limit f) (EndsInside (length f)) (record { begun = w.begun; front = w.front; rest = drop at f; is = w.is; begins = w.file; due = inl ((subst⁻¹ (Cut five) nothing_left (record { continued = tt; short = lit≤ tt }), λ d z. not_end w.begun d (subst (λ (t : State). may_end t.due ≡ false) w.state e)), refl) }))

@@ -7,7 +7,7 @@ use Rattle.meaning.specs.Numbers.{limit}
 use Rattle.meaning.specs.Rings.{ring_numbers}
 use Rattle.meaning.specs.MaskFile.{five, bytes_of}
 use Rattle.meaning.specs.Faults.{RingFault, FileFault}
-use Rattle.numbers.specs.declared.Reading.{Reading}
+use Rattle.numbers.specs.Reading.{Reading}
 use Rattle.reading_laws.specs.Outcome.{Outcome}
 
 abbrev pub RingsOutcome : List ℕ → List ℤ → Reading → List ℤ → Type 0

@@ -4,14 +4,14 @@
 ghost use Rattle.std.specs.Prelude.{◌≡◌, ◌+◌, ◌≤◌, ◌<◌, ◌++◌, length, drop};
 ghost use Rattle.meaning.specs.MaskFile.{spelt, most, five};
 ghost use Rattle.meaning.specs.Faults.{Read};
-ghost use Rattle.answers.specs.Said.{said};
+ghost use Rattle.answers.specs.Told.{told};
 ghost use Rattle.ring_laws.specs.Groups.{front};
 ghost use Rattle.rings.specs.State.{greatest, Sane};
 ghost use Rattle.maskfile.specs.Due.{moved, value_of, minus_zero, due_in_file, lifted_of};
 ghost use Rattle.maskfile.specs.Outcome.{RingsOutcome, FileOutcome};
 
-use answers::Answer;
-use numbers::Reading;
+use answers::Refusal;
+use numbers::Number;
 use rings::{Due, State};
 
 // The most bytes of a file.
@@ -35,13 +35,13 @@ fn moved(p: u64, n: u64) -> u64
     0
 }
 
-// The due number that is stored as n.
+// The due number that is stored as n: the way back of `maskwriter::stored`. One function for both would take the way as a parameter, and say less.
+#[tactic(auto, unfolding(crate::specs::Due::value_of))]
 fn value_of(s: State, n: u64) -> u64
     requires { (Sane s) × (n < most five) }
     ensures { result ≡ value_of s n }
 {
-    let due = s.due;
-    match due {
+    match s.due {
         Due::Layer => n,
         Due::Count => n,
         Due::X => moved(s.px, n),
@@ -60,19 +60,19 @@ fn minus_zero(due: Due, n: u64) -> bool
 }
 
 // The due number at `at`.
-fn due_at(file: &[u8], at: usize, s: State) -> Reading
-    requires { (Sane s) × (at ≤ length file.now) }
+fn due_at(file: &[u8], at: usize, s: State) -> Result<Number, Refusal>
+    requires { Sane s }
     ensures { result ≡ due_in_file (length file.now) s at (front five (drop at file.now)) }
 {
+    // The specification names this form: a refusal is handed straight on.
     let number = numbers::number_at(file, at, numbers::GROUPS);
-    let Reading::Value(n, next) = number else {
+    let Ok(stored) = number else {
         return number;
     };
-    let due = s.due;
-    if minus_zero(due, n) {
-        return Reading::Refused(13, at);
+    if minus_zero(s.due, stored.value) {
+        return Err(Refusal::BadNumber(at));
     }
-    rings::judged(s, value_of(s, n), at, next)
+    rings::judged(s, value_of(s, stored.value), at, stored.next)
 }
 
 // The due number v, 2^31 above itself.
@@ -86,8 +86,9 @@ fn lifted(due: Due, v: u64) -> u64
     v + rings::HALF
 }
 
-// Reads the rings, which begin at `from`, and writes their numbers as far as there is room: the value is how many they are.
-fn rings_from(file: &[u8], out: &mut [i32], from: usize) -> Reading
+// Reads the rings, which begin at `from`, and writes their numbers as far as there is room: the value is how many they are. It is no walk of
+// `ringwalk`, whose list has a number at each place: here a number has one to five bytes.
+fn rings_from(file: &[u8], out: &mut [i32], from: usize) -> Result<Number, Refusal>
     requires { (from ≡ length (spelt five 1)) × ((file.now ≡ spelt five 1 ++ drop from file.now) × (from ≤ length file.now)) }
     ensures { RingsOutcome file.now out.old result out.new }
 {
@@ -96,51 +97,46 @@ fn rings_from(file: &[u8], out: &mut [i32], from: usize) -> Reading
     let mut n: usize = 0;
     while at < file.len() {
         let number = due_at(file, at, s);
-        let Reading::Value(v, next) = number else {
+        let Ok(due) = number else {
             return number;
         };
-        let due = s.due;
-        rings::put(out, n, lifted(due, v));
+        rings::put(out, n, lifted(s.due, due.value));
         n += 1;
-        s = rings::after(s, v);
-        at = next;
+        s = rings::after(s, due.value);
+        at = due.next;
     }
-    let due = s.due;
-    if rings::may_end(due) {
-        return Reading::Value(n as u64, at);
+    if rings::may_end(s.due) {
+        return Ok(Number {
+            value: n as u64,
+            next: at,
+        });
     }
-    Reading::Refused(12, file.len())
+    Err(Refusal::EndsInside(file.len()))
 }
 
 // Reads a file, and writes the numbers of its list as far as there is room.
-fn list_from(file: &[u8], out: &mut [i32]) -> Reading
+fn list_from(file: &[u8], out: &mut [i32]) -> Result<Number, Refusal>
     ensures { FileOutcome file.now out.old result out.new }
 {
     let edition = numbers::number_at(file, 0, numbers::GROUPS);
-    let Reading::Value(number, next) = edition else {
+    let Ok(number) = edition else {
         return edition;
     };
-    if number == numbers::EDITION {
-        return rings_from(file, out, next);
+    if number.value == numbers::EDITION {
+        return rings_from(file, out, number.next);
     }
-    Reading::Refused(14, 0)
+    Err(Refusal::OtherEdition)
 }
 
-// The ring list of a mask file.
-pub fn read(file: &[u8], rings: &mut [i32]) -> Answer
-    ensures { Read file.now rings.old (said result, rings.new) }
+// The ring list of a mask file: how many numbers were written, or the refusal.
+pub fn read(file: &[u8], rings: &mut [i32]) -> Result<u64, Refusal>
+    ensures { Read file.now rings.old (told result, rings.new) }
 {
     if LONGEST < file.len() {
-        return answers::refused(11, 0);
+        return Err(Refusal::FileTooLong);
     }
     let mut none = [0i32; 1];
-    let judged = numbers::settled(list_from(file, &mut none), rings.len());
-    let Reading::Value(_, _) = judged else {
-        return numbers::answer(judged);
-    };
-    let made = list_from(file, rings);
-    let Reading::Value(written, _) = made else {
-        return numbers::answer(made);
-    };
-    answers::accepted(written)
+    numbers::settled(list_from(file, &mut none), rings.len())?;
+    let written = list_from(file, rings)?;
+    Ok(written.value)
 }

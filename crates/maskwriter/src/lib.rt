@@ -2,16 +2,17 @@
 #![tactic(auto)]
 
 ghost use Rattle.std.specs.Prelude.{◌≡◌, ◌≤◌};
-ghost use Rattle.meaning.specs.MaskFile.{five, bytes_of};
-ghost use Rattle.meaning.specs.Faults.{Written};
-ghost use Rattle.answers.specs.Said.{said};
+ghost use Rattle.meaning.specs.Numbers.{limit};
+ghost use Rattle.meaning.specs.MaskFile.{spelt, five, bytes_of};
+ghost use Rattle.meaning.specs.Faults.{Begins, FileSpells, Written};
+ghost use Rattle.answers.specs.Told.{told};
 ghost use Rattle.rings.specs.State.{greatest, Sane};
-ghost use Rattle.reading_laws.specs.Outcome.{ListOutcome};
 ghost use Rattle.maskwriter.specs.Stored.{difference, stored_of};
+ghost use Rattle.maskwriter.specs.Filed.{file_laws};
 
-use answers::Answer;
-use numbers::Reading;
+use answers::Refusal;
 use rings::{Due, State};
+use ringwalk::Made;
 
 // The stored difference of v from p.
 fn difference(p: u64, v: u64) -> u64
@@ -25,12 +26,12 @@ fn difference(p: u64, v: u64) -> u64
 }
 
 // The due number v, as a file stores it.
+#[tactic(auto, unfolding(crate::specs::Stored::stored_of))]
 fn stored(s: State, v: u64) -> u64
     requires { (Sane s) × (v ≤ greatest) }
     ensures { result ≡ stored_of s v }
 {
-    let due = s.due;
-    match due {
+    match s.due {
         Due::Layer => v,
         Due::Count => v,
         Due::X => difference(s.px, v),
@@ -38,41 +39,35 @@ fn stored(s: State, v: u64) -> u64
     }
 }
 
-// Goes through a ring list, and writes its file as far as there is room: the value is how many bytes it has.
-fn file_of(list: &[i32], out: &mut [u8]) -> Reading
-    ensures { ListOutcome (bytes_of five) list.now out.old result out.new }
-{
-    let mut s = rings::begin();
-    let mut i: usize = 0;
-    let mut n = numbers::put_number(out, 0, numbers::EDITION, numbers::GROUPS);
-    while i < list.len() {
-        let number = rings::due_in(list, i, s);
-        let Reading::Value(v, next) = number else {
-            return number;
-        };
-        n = numbers::put_number(out, n, stored(s, v), numbers::GROUPS);
-        s = rings::after(s, v);
-        i = next;
+// The bytes of a mask file, as what is made of a ring list.
+struct File;
+
+impl Made for File {
+    type Item = u8;
+
+    ghost begins = { Begins limit (FileSpells five) (spelt five 1) };
+
+    ghost adds = { λ s v. spelt five (stored_of s v) };
+
+    ghost make = { bytes_of five };
+
+    ghost laws = { file_laws };
+
+    fn begin(out: &mut [u8]) -> usize {
+        numbers::put_number(out, 0, numbers::EDITION, numbers::GROUPS)
     }
-    let due = s.due;
-    if rings::may_end(due) {
-        return Reading::Value(n as u64, i);
+
+    fn add(out: &mut [u8], n: usize, s: State, v: u64) -> usize {
+        numbers::put_number(out, n, stored(s, v), numbers::GROUPS)
     }
-    Reading::Refused(12, list.len())
 }
 
-// The mask file of a ring list.
-pub fn write(rings: &[i32], file: &mut [u8]) -> Answer
-    ensures { Written rings.now file.old (said result, file.new) }
+// The mask file of a ring list: how many bytes were written, or the refusal. Three lines that `ringedges::edges_of` has too: the edits `room_of_the_list` and `accepts_none` stand in both.
+pub fn write(rings: &[i32], file: &mut [u8]) -> Result<u64, Refusal>
+    ensures { Written rings.now file.old (told result, file.new) }
 {
     let mut none = [0u8; 1];
-    let judged = numbers::settled(file_of(rings, &mut none), file.len());
-    let Reading::Value(_, _) = judged else {
-        return numbers::answer(judged);
-    };
-    let made = file_of(rings, file);
-    let Reading::Value(bytes, _) = made else {
-        return numbers::answer(made);
-    };
-    answers::accepted(bytes)
+    numbers::settled(ringwalk::walk::<File>(rings, &mut none), file.len())?;
+    let written = ringwalk::walk::<File>(rings, file)?;
+    Ok(written.value)
 }

@@ -12,26 +12,27 @@ use native.Mathlib.Omega.{arith}
 use native.Mathlib.Nat.{pow-suc, pow-le-pow_right}
 use native.Mathlib.Numerals.{add-one}
 use lib.Dec.{lit≤}
+use Rattle.std.specs.Prelude.{Ok, Err}
 use lib.ListN.{length, get_or, set, drop, drop_of_length-le}
 use lib.Seq.{drop-cons, sets}
 use borrow.Author.Tests.{eq-eqb, ne_eqb}
-use Rattle.meaning.specs.Answers.{ends_inside, bad_number}
 use Rattle.meaning.specs.MaskFile.{spelt, most}
+use Rattle.answers.specs.declared.Refusal.{Refusal}
+use Rattle.answers.specs.declared.Refusal.TheVariants.{EndsInside, BadNumber}
 use Rattle.ring_laws.specs.Groups.{Front, cut, bad, number, front, continue, clash, front_one, front_more, front_bounds, spelt_one, spelt_more}
-use Rattle.numbers.specs.Reading.{refuse, reading, joined}
-use Rattle.numbers.specs.declared.Reading.{Reading}
-use Rattle.numbers.specs.declared.Reading.TheVariants.{Value, Refused}
+use Rattle.numbers.specs.Reading.{Reading, Value, reading, joined}
+use Rattle.numbers.specs.declared.Number.{Number}
 
 -- g is not 0
 pub pred : (g : ℕ) → (g ≡ 0 → ⊥) → g ≡ suc (g - 1)
 pred g h = omega arith
 
 module _ (l : List ℕ) (start at g : ℕ) where
-  pub read_none : g ≡ 0 → refuse (bad_number start) ≡ reading (length l) start at (front g (drop at l))
+  pub read_none : g ≡ 0 → Err (BadNumber start) ≡ reading (length l) start at (front g (drop at l))
   unfolding front reading
   read_none e = rw e
 
-  pub read_end : (g ≡ 0 → ⊥) → length l ≤ at → refuse (ends_inside (length l)) ≡ reading (length l) start at (front g (drop at l))
+  pub read_end : (g ≡ 0 → ⊥) → length l ≤ at → Err (EndsInside (length l)) ≡ reading (length l) start at (front g (drop at l))
   unfolding front reading
   read_end e h = rw (drop_of_length-le l h, pred g e)
 
@@ -59,26 +60,26 @@ module _ (l : List ℕ) (start at g : ℕ) where
 -- ---- what was read after a continued group
 
 module _ (b start : ℕ) (rest : Reading) where
-  pub join_refused : (n p : ℕ) → rest ≡ Refused n p → rest ≡ joined b start rest
-  join_refused n p e = rw e
+  pub join_refused : (f : Refusal) → rest ≡ Err f → rest ≡ joined b start rest
+  join_refused f e = rw e
 
-  pub join_zero : (v next : ℕ) → rest ≡ Value v next → v ≡ 0 → refuse (bad_number start) ≡ joined b start rest
-  join_zero v next e z = rw (e, eq-eqb v 0 z)
+  pub join_zero : (n : Number) → rest ≡ Ok n → n.value ≡ 0 → Err (BadNumber start) ≡ joined b start rest
+  join_zero n e z = rw (e, eq-eqb n.value 0 z)
 
-  pub join_value : (v next : ℕ) → rest ≡ Value v next → (v ≡ 0 → ⊥) → Value (b % 128 + 128 * v) next ≡ joined b start rest
-  join_value v next e z = rw (e, ne_eqb v 0 z)
+  pub join_value : (n : Number) → rest ≡ Ok n → (n.value ≡ 0 → ⊥) → Value (b % 128 + 128 * n.value) n.next ≡ joined b start rest
+  join_value n e z = rw (e, ne_eqb n.value 0 z)
 
 -- a value read in at most eight groups
-pub value_below : (len start at g : ℕ) (bs : List ℕ) (r : Reading) (v next : ℕ) → g ≤ 8 → r ≡ reading len start at (front g bs) → r ≡ Value v next → v < 72057594037927936
+pub value_below : (len start at g : ℕ) (bs : List ℕ) (r : Reading) (n : Number) → g ≤ 8 → r ≡ reading len start at (front g bs) → r ≡ Ok n → n.value < 72057594037927936
 unfolding reading
-value_below len start at g bs r v next h e q = go (front g bs) refl (sym e ∙ q)
+value_below len start at g bs r n h e q = go (front g bs) refl (sym e ∙ q)
   where
-    go : (s : Front) → front g bs ≡ s → reading len start at s ≡ Value v next → v < 72057594037927936
+    go : (s : Front) → front g bs ≡ s → reading len start at s ≡ Ok n → n.value < 72057594037927936
     go cut k w = clash (cc)
     go bad k w = clash (cc)
-    go (number u n) k w =
-        let i : u ≡ v = cc in
-        omega (arith, (front_bounds g bs u n k).0, pow-le-pow_right {n = 128} (lit≤ tt) h)
+    go (number u m) k w =
+        let i : u ≡ n.value = cc in
+        omega (arith, (front_bounds g bs u m k).0, pow-le-pow_right {n = 128} (lit≤ tt) h)
 
 -- ---- writing
 

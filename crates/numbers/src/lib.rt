@@ -5,10 +5,9 @@ ghost use Rattle.std.specs.Prelude.{◌≡◌, ◌+◌, ◌≤◌, ◌<◌, leng
 ghost use Rattle.std.proofs.lemmas.List.Edits.{sets};
 ghost use Rattle.meaning.specs.MaskFile.{spelt, most};
 ghost use Rattle.ring_laws.specs.Groups.{front};
-ghost use Rattle.answers.specs.Said.{said};
-ghost use Rattle.numbers.specs.Reading.{answer_of, settled_of, reading};
+ghost use Rattle.numbers.specs.Reading.{settled_of, reading};
 
-use answers::Answer;
+use answers::Refusal;
 
 // At most five groups make a number.
 pub const GROUPS: u64 = 5;
@@ -16,83 +15,74 @@ pub const GROUPS: u64 = 5;
 // The number that a mask file begins with.
 pub const EDITION: u64 = 1;
 
-// What every reader answers: a value with the place after it, or a refusal's number and value.
-#[derive(Clone, Copy)]
-pub enum Reading {
-    Value(u64, usize),
-    Refused(u64, usize),
+// What every reader answers, where it does not refuse: a value with the place after it.
+#[derive(Clone, Copy, Debug, PartialEq, Eq)]
+pub struct Number {
+    pub value: u64,
+    pub next: usize,
 }
 
-// The answer of a call that hands a reader's on.
-pub fn answer(r: Reading) -> Answer
-    ensures { said result ≡ answer_of r }
-{
-    match r {
-        Reading::Value(value, _) => answers::accepted(value),
-        Reading::Refused(number, value) => answers::refused(number, value as u64),
-    }
-}
-
-// What a call may go on with, whose result has this room: a refusal as it is, 18 with what is needed where the room is too short, else the value.
-pub fn settled(judged: Reading, room: usize) -> Reading
+// What a call may go on with, whose result has this room: a refusal as it is, 18 with what is needed where the room is too short, else what was judged.
+#[tactic(auto, unfolding(crate::specs::Reading::settled_of))]
+pub fn settled(judged: Result<Number, Refusal>, room: usize) -> Result<Number, Refusal>
     ensures { result ≡ settled_of judged room }
 {
-    let Reading::Value(needed, _) = judged else {
-        return judged;
-    };
+    let read = judged?;
+    let needed = read.value;
     if (room as u64) < needed {
-        return Reading::Refused(18, needed as usize);
+        return Err(Refusal::RoomTooShort(needed));
     }
-    judged
-}
-
-fn wide(x: u8) -> u64
-    ensures { result ≡ x }
-{
-    x as u64
+    Ok(read)
 }
 
 // What is left at `at` of the number that begins at `start`, in at most `groups` groups.
-fn number_from(file: &[u8], start: usize, at: usize, groups: u64) -> Reading
-    requires { (at ≤ length file.now) × (groups ≤ 9) }
+fn number_from(file: &[u8], start: usize, at: usize, groups: u64) -> Result<Number, Refusal>
+    requires { groups ≤ 9 }
     ensures { result ≡ reading (length file.now) start at (front groups (drop at file.now)) }
 {
     if groups == 0 {
-        return Reading::Refused(13, start);
+        return Err(Refusal::BadNumber(start));
     }
     if file.len() <= at {
-        return Reading::Refused(12, file.len());
+        return Err(Refusal::EndsInside(file.len()));
     }
-    let b = wide(file[at]);
+    let b = u64::from(file[at]);
     if b < 128 {
-        return Reading::Value(b, at + 1);
+        return Ok(Number {
+            value: b,
+            next: at + 1,
+        });
     }
+    // The specification names this form: a refusal is handed straight on.
     let rest = number_from(file, start, at + 1, groups - 1);
-    let Reading::Value(v, next) = rest else {
+    let Ok(read) = rest else {
         return rest;
     };
-    if v == 0 {
-        return Reading::Refused(13, start);
+    if read.value == 0 {
+        return Err(Refusal::BadNumber(start));
     }
-    Reading::Value(b % 128 + 128 * v, next)
+    Ok(Number {
+        value: b % 128 + 128 * read.value,
+        next: read.next,
+    })
 }
 
 // The number at `at`, in at most `groups` groups.
-pub fn number_at(file: &[u8], at: usize, groups: u64) -> Reading
-    requires { (at ≤ length file.now) × (groups ≤ 9) }
+pub fn number_at(file: &[u8], at: usize, groups: u64) -> Result<Number, Refusal>
+    requires { groups ≤ 9 }
     ensures { result ≡ reading (length file.now) at at (front groups (drop at file.now)) }
 {
     number_from(file, at, at, groups)
 }
 
-// Writes a byte, where there is room for it.
+// Writes a byte, where there is room for it. The buffer is the caller's, here and wherever a place stands beside one in the mask files: there is no heap, and a place may lie past
+// the end, where nothing is written and all the same is counted.
 fn put_byte(out: &mut [u8], at: usize, b: u8)
     ensures { out.new ≡ set out.old at b }
 {
-    if out.len() <= at {
-        return;
+    if at < out.len() {
+        out[at] = b;
     }
-    out[at] = b;
 }
 
 // Writes the groups of v from `at` on, as far as there is room, and returns the place after them.

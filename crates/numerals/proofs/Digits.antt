@@ -7,7 +7,7 @@ use native.Mathlib.Omega.{arith}
 use native.Mathlib.Numerals.{add-one}
 use lib.ListN.{length, take, get_or}
 use lib.Seq.{take-suc}
-use mir.Syntax.{w64}
+use mir.Syntax.{w32}
 use mir.Val.{SFits, to_z, of_z}
 use mir.Facts.{to_z-of_z}
 use lib.IntN.{ℤ, pos, negsuc, nat_abs}
@@ -36,11 +36,11 @@ plus (pos n) t = refl
 plus (negsuc n) t = absurd (true≢false t)
 
 -- the test and the size are of what the machine reads back from the bits of z
-module _ (z : ℤ) (fits : SFits w64 z) {m : ℕ} (size : m ≡ nat_abs (to_z w64 (of_z w64 z))) where
-  pub with_sign : lt_z (to_z w64 (of_z w64 z)) (pos 0) ≡ true → signed_text z ≡ (45 ∷ []) ++ decimal m
+module _ (z : ℤ) (fits : SFits w32 z) {m : ℕ} (size : m ≡ nat_abs (to_z w32 (of_z w32 z))) where
+  pub with_sign : lt_z (to_z w32 (of_z w32 z)) (pos 0) ≡ true → signed_text z ≡ (45 ∷ []) ++ decimal m
   with_sign t = minus z (rw (to_z-of_z fits) at t) ∙ ap (λ (n : ℕ). (45 ∷ []) ++ decimal n) (ap nat_abs (sym (to_z-of_z fits)) ∙ sym size)
 
-  pub without_sign : lt_z (to_z w64 (of_z w64 z)) (pos 0) ≡ false → signed_text z ≡ decimal m
+  pub without_sign : lt_z (to_z w32 (of_z w32 z)) (pos 0) ≡ false → signed_text z ≡ decimal m
   without_sign t = plus z (rw (to_z-of_z fits) at t) ∙ ap decimal (ap nat_abs (sym (to_z-of_z fits)) ∙ sym size)
 
 -- ---- a word, byte by byte

@@ -9,14 +9,11 @@ fn put_levels(ws: &[u64], vx: &[u32], n: usize, out: &mut [i32])
     requires { LevelsOk ws.now vx.now n }
     ensures { out.new ≡ levelled vx.now ws.now n out.old }
 {
-    let mut i = 0;
-    while i < ws.len() {
-        let w = ws[i];
-        let y = horizontal::height(w);
-        let f = horizontal::rank_from(w);
-        let t = horizontal::rank_to(w);
+    for (i, w) in ws.iter().enumerate() {
+        let y = horizontal::height(*w);
+        let f = horizontal::rank_from(*w);
+        let t = horizontal::rank_to(*w);
         records::put(out, n + i, 0, y, vx[f], vx[t]);
-        i += 1;
     }
 }
 

@@ -3,9 +3,10 @@
 --   Answered P before after n   a text of which P holds stands at the front of `after`, n is its length, and the rest of `after` is that of `before`
 --   one_printed                 ONE TEXT: what the program prints for an input is one text
 --   one_answered                ONE ANSWER: outputs and lengths meeting the promise are equal
---   answered_as                 a text of which P holds is one of which Q holds
+--   Answers P before after r    what the parts of the program answer: such a text, or a refusal whose first line is one, and nothing is stored
+--   answered_as, answers_as     a text of which P holds is one of which Q holds
 --   answered_fits               the n bytes stand in `after`
-use Rattle.std.specs.Prelude.{◌≡◌, List, [], ◌∷◌, map, ℕ, ◌≤◌, ◌<◌, ℤ, length}
+use Rattle.std.specs.Prelude.{◌≡◌, Result, Ok, Err, List, [], ◌∷◌, map, ℕ, ◌≤◌, ◌<◌, ℤ, length}
 use Rattle.std.proofs.Common.{sym, ap, ◌∙◌, subst, arith, length-append}
 use Rattle.meaning.specs.Numbers.{limit}
 use Rattle.meaning.specs.Answers.{Answer, accepted, Row, First, file_too_long, too_little_room}
@@ -15,6 +16,8 @@ use Rattle.meaning.specs.Rings.{Ring, ring_edges}
 use Rattle.meaning.specs.MaskFile.{five, longest}
 use Rattle.meaning.specs.Printed.{first_line, printed}
 use Rattle.meaning.specs.Program.{text_of, file_of, refuses, file_rows, NoRoom, ring_rows, Shown, Prints}
+use Rattle.answers.specs.declared.Refusal.{Refusal}
+use Rattle.answers.specs.Told.{answer_of}
 use Rattle.basic_laws.specs.Tables.{Single, Singles, single_given, one_answer, singles_append}
 use Rattle.expression_laws.specs.Meanings.{one_expression}
 use Rattle.call_laws.specs.Judging.{call_single}
@@ -27,8 +30,16 @@ pub record Answered (P : Row (List ℕ)) (before after : List ℕ) (n : ℕ) : T
   pub is : P text
   pub front : Front before text after n
 
+abbrev pub Answers : Row (List ℕ) → List ℕ → List ℕ → Result ℕ Refusal → Type 0
+Answers P before after (Ok n) = Answered P before after n
+Answers P before after (Err refusal) = P (first_line (answer_of refusal)) × (after ≡ before)
+
 pub answered_as : {P Q : Row (List ℕ)} {before after : List ℕ} {n : ℕ} → ((t : List ℕ) → P t → Q t) → Answered P before after n → Answered Q before after n
 answered_as f a = record { text = a.text; is = f a.text a.is; front = a.front }
+
+pub answers_as : {P Q : Row (List ℕ)} (before after : List ℕ) (r : Result ℕ Refusal) → ((t : List ℕ) → P t → Q t) → Answers P before after r → Answers Q before after r
+answers_as before after (Ok n) f a = answered_as f a
+answers_as before after (Err refusal) f a = (f (first_line (answer_of refusal)) a.0, a.1)
 
 pub answered_fits : {P : Row (List ℕ)} {before after : List ℕ} {n : ℕ} → Answered P before after n → n ≤ length after
 answered_fits {P} {before} {after} {n} a = omega (arith, a.front.size, simp length-append at (ap length a.front.buffer))

@@ -1,6 +1,6 @@
 -- From the calls run and area to what is printed over an edge list. Assumes nothing.
 --
---   edges_refused   a run that refuses
+--   edges_refused, run_refused   a run that refuses
 --   edges_most      an accepted run has at most 2,048 records
 --   edges_shown     an accepted run, and the area after it
 use Rattle.std.specs.Prelude.{◌≡◌, refl, List, [], ◌∷◌, ◌++◌, map, ℕ, ◌*◌, ◌≤◌, ℤ, length, take, drop}
@@ -11,6 +11,8 @@ use Rattle.meaning.specs.Records.{Record, rec, numbers_of}
 use Rattle.meaning.specs.Calls.{records_of, area_of, Outcome, outcome, unchanged, call_rows, Short, Recorded, Runs, Areas}
 use Rattle.meaning.specs.Printed.{first_line, printed}
 use Rattle.meaning.specs.Program.{refuses, NoRoom, Shown}
+use Rattle.answers.specs.declared.Refusal.{Refusal}
+use Rattle.answers.specs.Told.{answer_of, refusal_number}
 use Rattle.basic_laws.specs.Tables.{Silent}
 use Rattle.expression_laws.specs.Meanings.{one_expression}
 use Rattle.printed_laws.specs.Lines.{accepted_text}
@@ -39,6 +41,9 @@ module _ (ns : List ℤ) (text : List ℕ) (out after : List ℤ) (room : length
   pub edges_refused : (k v : ℕ) → (k ≡ 0 → ⊥) → Runs ns text out (outcome (answer k v) after) → OfEdges ns text (first_line (answer k v))
   unfolding OfEdges Runs
   edges_refused k v n x = rows_refuse (call_rows ns text) k v n x
+
+  pub run_refused : (r : Refusal) → Runs ns text out (outcome (answer_of r) after) → OfEdges ns text (first_line (answer_of r))
+  run_refused r x = edges_refused (answer_of r).number (answer_of r).value (refusal_number r) x
 
   rows_pass : (rows : List (Row Answer)) (t : List ℕ) → First rows (λ r. r ≡ accepted 0) (accepted 0) → Silent (accepted 0) rows → First (map refuses (NoRoom ns text ∷ [])) (Shown ns text) t
       → First (map refuses (rows ++ (NoRoom ns text ∷ []))) (Shown ns text) t

@@ -1,9 +1,10 @@
 -- From reading a mask file to what is printed over it. Assumes nothing.
 --
 --   numbers_few, edges_few   a good ring list has at most 12,288 numbers, and its edges have at most 16,384
---   file_refused             what is printed of a file that is refused
+--   file_refused, read_refused   what is printed of a file that is refused
 --   RingEdges file ns        ns are the edges of the ring list of the file
 --   read_most, made_most     how many numbers an accepted file has, and the edges that are made of them
+--   made_accepted            its ring list is accepted where its edges are made
 --   read_edges               these edges are those of the ring list of the file
 --   file_edges               what is printed over them is printed over the file
 use Rattle.std.specs.Prelude.{◌≡◌, List, [], ◌∷◌, ◌++◌, ℕ, ◌*◌, ◌≤◌, ℤ, length, take, drop}
@@ -15,6 +16,8 @@ use Rattle.meaning.specs.Rings.{Pair, Ring, All, GoodRing, GoodRings, pairs_in, 
 use Rattle.meaning.specs.MaskFile.{five, bytes_of}
 use Rattle.meaning.specs.Faults.{FileFault, Laid, Read, Edged}
 use Rattle.meaning.specs.Printed.{first_line}
+use Rattle.answers.specs.declared.Refusal.{Refusal}
+use Rattle.answers.specs.Told.{answer_of, refusal_number}
 use Rattle.ring_laws.specs.Trips.{Makes, made_front}
 use Rattle.ring_laws.specs.Calls.{some, holds, file_fault_none, list_one, list_laid, laid_done, short_enough}
 use Rattle.mask_laws.specs.Promises.{reads}
@@ -54,6 +57,9 @@ file_refused file text out after k v room n (inl x) = inl (answer k v, (x.0, ap 
 file_refused file text out after k v room n (inr (m, inl x)) = inr ((λ s y. m (file_too_long, out) (y.1.0, refl)), inl (answer k v, x.0, refl))
 file_refused file text out after k v room n (inr (m, inr (_, (rs, g, e, l)))) = absurd (n (laid_accepts rs out after k v g room l))
 
+pub read_refused : (file text : List ℕ) (out after : List ℤ) (r : Refusal) → length out ≡ 12288 → Read file out (answer_of r, after) → OfFile file text (first_line (answer_of r))
+read_refused file text out after r room x = file_refused file text out after (answer_of r).number (answer_of r).value room (refusal_number r) x
+
 -- ---- a file that is accepted
 
 pub record RingEdges (file : List ℕ) (ns : List ℤ) : Type 0 where
@@ -87,6 +93,9 @@ module _ (file : List ℕ) (out after : List ℤ) (k n : ℕ) (z : k ≡ 0) (x :
 
     made_of : Edged (ring_numbers listed.0) room (b, made)
     made_of = subst (λ (ns : List ℤ). Edged ns room (b, made)) list_front y
+
+    pub made_accepted : (v : ℕ) × (b ≡ accepted v)
+    made_accepted = (length (ring_edges listed.0), ap (λ r. r.0) (edges_made listed.0 listed.1 room made h b made_of))
 
     pub made_most : b.value ≤ 16384
     made_most = omega (arith, made_count listed.0 listed.1 room made h b made_of, edges_few listed.0 listed.1)

@@ -1,15 +1,27 @@
 -- The loop of `ranks_of`: after i words, values has the keys of these, rising, up to place k, where the last key stands. Assumes nothing.
 use mathlib.Core.Path.{◌≡◌, refl, sym, ap, ◌∙◌}
-use mathlib.Core.Logic.{⊎_elim, ◌⊎◌}
+use mathlib.Core.Logic.{⊎_elim, ◌⊎◌, inl, inr}
 use mathlib.Core.List.{List}
 use Prim.Native.Nat.{ℕ, ◌+◌, ◌<◌, ◌≤◌}
 use native.Mathlib.Omega.{arith}
+use native.Mathlib.Decide.{dec_lt}
+use borrow.Author.Tests.{lt-ltb, le-ltb}
+use lib.Dec.{ltb}
+use mir.Val.{bool_byte}
 use lib.ListN.{length, get_or, set, length-set}
 use lib.Seq.{get_or-set_same, get_or-set_other}
 use Rattle.sum_laws.specs.Laws.{after_set, below_or}
 use native.Mathlib.Nat.{eq-or-lt_of_le}
 use Rattle.words.specs.Words.{place_of, value_of, value_up}
 use Rattle.ranking.specs.Ranked.{Rankable, Has, Ranked}
+
+-- one more where v is above the last, as the code counts it
+pub is_new : (last v d : ℕ) → d ≡ bool_byte (ltb last v) → ((last < v) × (d ≡ 1)) ⊎ ((v ≤ last) × (d ≡ 0))
+is_new last v d e = by_dec (dec_lt last v)
+  where
+    by_dec : Dec (last < v) → ((last < v) × (d ≡ 1)) ⊎ ((v ≤ last) × (d ≡ 0))
+    by_dec (yes l) = inl (l, e ∙ ap bool_byte (lt-ltb last v l))
+    by_dec (no n) = inr (omega arith, e ∙ ap bool_byte (le-ltb last v (omega arith)))
 
 pub wide_set : (ws values : List ℕ) (v : ℕ) → length ws ≤ length values → length ws ≤ length (set values 0 v)
 wide_set ws values v h = rw length-set h

@@ -1,4 +1,5 @@
 // The readers of an expression: a sum is made of products, a product of factors, and a factor may hold a sum in parentheses again.
+// Each answer is opened by `let .. else`, and its refusal handed straight on: the specification names this form.
 #![tactic(auto)]
 
 ghost use Rattle.std.specs.Prelude.{◌≡◌};
@@ -11,11 +12,7 @@ ghost use Rattle.readers.specs.Pieces.{piece_of, reads_as, Whole};
 pub type Handed = u8;
 
 // What reading a piece gives: its value with the place after it, or a refusal.
-#[derive(Clone, Copy)]
-pub enum Piece {
-    Got(bool, usize),
-    Refused,
-}
+pub type Piece = Option<(bool, usize)>;
 
 // Does the layer of a letter cover?
 fn covered(handed: Handed, letter: u8) -> bool
@@ -30,21 +27,21 @@ fn letter(text: &[u8], at: usize, handed: Handed) -> Piece
     ensures { result ≡ piece_of (cover_of handed) (letter_at text.now at) }
 {
     if text.len() <= at {
-        return Piece::Refused;
+        return None;
     }
     let b = text[at];
     if b < b'a' {
-        return Piece::Refused;
+        return None;
     }
     if b'h' < b {
-        return Piece::Refused;
+        return None;
     }
     let v = covered(handed, b);
     let next = at + 1;
-    Piece::Got(v, next)
+    Some((v, next))
 }
 
-// The value of the operator whose byte is op.
+// The value of the operator whose byte is op: the flags are its two operands.
 fn combined(op: u8, v: bool, w: bool) -> bool
     ensures { result ≡ joins (operator_of op) v w }
 {
@@ -81,32 +78,34 @@ fn factor(text: &[u8], at: usize, handed: Handed) -> Piece
     ensures { result ≡ reads_as (cover_of handed) text.now a_factor at }
 {
     if text.len() <= at {
-        return Piece::Refused;
+        return None;
     }
     let b = text[at];
     if b == b'!' {
         let r = factor(text, at + 1, handed);
-        let Piece::Got(v, next) = r else {
+        let Some((v, next)) = r else {
             return r;
         };
-        return Piece::Got(!v, next);
+        return Some((!v, next));
     }
     if b == b'(' {
         let r = sum(text, at + 1, handed);
-        let Piece::Got(v, next) = r else {
+        let Some((v, next)) = r else {
             return r;
         };
         if text.len() <= next {
-            return Piece::Refused;
+            return None;
         }
         if text[next] == b')' {
             let after = next + 1;
-            return Piece::Got(v, after);
+            return Some((v, after));
         }
-        return Piece::Refused;
+        return None;
     }
     letter(text, at, handed)
 }
+
+// `product` and `sum` stay two functions: the specification asks for readers of a sum, a product and a factor that call each other.
 
 // Reads a product: factors, with `*` and `-` between them, from left to right.
 #[cycle(factor_product_sum)]
@@ -114,7 +113,7 @@ fn product(text: &[u8], at: usize, handed: Handed) -> Piece
     ensures { result ≡ reads_as (cover_of handed) text.now a_product at }
 {
     let first = factor(text, at, handed);
-    let Piece::Got(lead, after) = first else {
+    let Some((lead, after)) = first else {
         return first;
     };
     let mut v = lead;
@@ -122,16 +121,16 @@ fn product(text: &[u8], at: usize, handed: Handed) -> Piece
     while i < text.len() {
         let op = text[i];
         if !is_tight(op) {
-            return Piece::Got(v, i);
+            return Some((v, i));
         }
         let r = factor(text, i + 1, handed);
-        let Piece::Got(w, next) = r else {
+        let Some((w, next)) = r else {
             return r;
         };
         v = combined(op, v, w);
         i = next;
     }
-    Piece::Got(v, i)
+    Some((v, i))
 }
 
 // Reads a sum: products, with `+` and `^` between them, from left to right.
@@ -140,7 +139,7 @@ fn sum(text: &[u8], at: usize, handed: Handed) -> Piece
     ensures { result ≡ reads_as (cover_of handed) text.now a_sum at }
 {
     let first = product(text, at, handed);
-    let Piece::Got(lead, after) = first else {
+    let Some((lead, after)) = first else {
         return first;
     };
     let mut v = lead;
@@ -148,16 +147,16 @@ fn sum(text: &[u8], at: usize, handed: Handed) -> Piece
     while i < text.len() {
         let op = text[i];
         if !is_loose(op) {
-            return Piece::Got(v, i);
+            return Some((v, i));
         }
         let r = product(text, i + 1, handed);
-        let Piece::Got(w, next) = r else {
+        let Some((w, next)) = r else {
             return r;
         };
         v = combined(op, v, w);
         i = next;
     }
-    Piece::Got(v, i)
+    Some((v, i))
 }
 
 // Reads the whole text.
@@ -165,11 +164,11 @@ pub fn whole(text: &[u8], handed: Handed) -> Piece
     ensures { Whole text.now (cover_of handed) result }
 {
     let r = sum(text, 0, handed);
-    let Piece::Got(v, next) = r else {
+    let Some((v, next)) = r else {
         return r;
     };
     if next < text.len() {
-        return Piece::Refused;
+        return None;
     }
-    Piece::Got(v, next)
+    Some((v, next))
 }

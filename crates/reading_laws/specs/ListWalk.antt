@@ -7,21 +7,22 @@
 --   list_at_next      one number further
 --   list_refused      a refusal on the way
 --   list_over, list_short   the end of the list
-use Rattle.std.specs.Prelude.{◌≡◌, refl, true, false, List, [], ◌∷◌, ◌++◌, ℕ, suc, ◌+◌, ◌-◌, ◌≤◌, ◌<◌, ℤ, pos, negsuc, length, get_or, take, drop}
+use Rattle.std.specs.Prelude.{◌≡◌, refl, None, Err, true, false, List, [], ◌∷◌, ◌++◌, ℕ, suc, ◌+◌, ◌-◌, ◌≤◌, ◌<◌, ℤ, pos, negsuc, length, get_or, take, drop}
 use Rattle.std.proofs.Common.{sym, ap, ap₂, subst, ◌∙◌, inl, inr, arith, add-one, lit≤, take-append-drop, drop_of_length-le, take-suc, take_all, drop-cons, length-take-le, lt-ltb, le-ltb}
 use Rattle.std.proofs.Math.Path.{subst⁻¹}
 use Rattle.std.proofs.lemmas.Bool.{false≢true}
 use Rattle.basic_laws.specs.Signed.{key_of}
 use Rattle.meaning.specs.Numbers.{limit}
-use Rattle.meaning.specs.Answers.{Answer, answer, ends_inside, ring_out_of_range}
+use Rattle.meaning.specs.Answers.{ends_inside}
+use Rattle.answers.specs.Told.{answer_of}
+use Rattle.answers.specs.declared.Refusal.{Refusal}
+use Rattle.answers.specs.declared.Refusal.TheVariants.{RingOutOfRange}
 use Rattle.meaning.specs.Rings.{Ring, GoodRings, pairs_in, ring_numbers}
 use Rattle.meaning.specs.Faults.{Begun, at_layer, at_count, at_x, at_y, after, Begins, nothing, more, ListSpells, DueJudged, ListFault}
 use Rattle.ring_laws.specs.Groups.{clash}
 use Rattle.ring_laws.specs.Beginnings.{Fine, Good, good_begins}
 use Rattle.ring_laws.specs.Forms.{list_begins}
-use Rattle.numbers.specs.Reading.{refuse, number_of}
-use Rattle.numbers.specs.declared.Reading.{Reading}
-use Rattle.numbers.specs.declared.Reading.TheVariants.{Value, Refused}
+use Rattle.numbers.specs.Reading.{Reading, Value}
 use Rattle.rings.specs.State.{start, is_coordinate, may_end, fault_of, next_of, judged_as, due_in_list, Sane}
 use Rattle.reading_laws.specs.StateOf.{state_of, keyed}
 use Rattle.rings.specs.declared.State.{State}
@@ -56,7 +57,7 @@ sign (at_y rs l k ps x) z = coordinate refl refl tt
 pub record Passed (b : Begun) (z : ℤ) (i v next : ℕ) : Type 0 where
   pub natural : Natural b z
   pub value : v ≡ keyed b z
-  pub fault : fault_of limit (state_of b) v ≡ 0
+  pub fault : fault_of limit (state_of b) v ≡ None
   pub fine : Fine limit b z
   pub place : next ≡ i + 1
 
@@ -68,29 +69,28 @@ module _ (b : Begun) (z : ℤ) (i : ℕ) (g : Good limit b) where
       whole : Natural b z → judged_as limit (state_of b) (keyed b z) i (i + 1) ≡ Value v next → Passed b z i v next
       whole u q =
           let j = judged_value limit (state_of b) (keyed b z) i (i + 1) v next q in
-          record { natural = u; value = j.1.0; fault = subst⁻¹ (λ (x : ℕ). fault_of limit (state_of b) x ≡ 0) j.1.0 j.0; fine = (verdict limit (lit≤ tt) b z 0 g u).fine j.0; place = j.1.1 }
+          record { natural = u; value = j.1.0; fault = subst⁻¹ (λ (x : ℕ). fault_of limit (state_of b) x ≡ None) j.1.0 j.0; fine = (verdict limit (lit≤ tt) b z 0 g u).fine j.0; place = j.1.1 }
 
       go : Sign b z → Passed b z i v next
       go (coordinate c k u) = whole u (rw k (rw c at e))
-      go (below c n q u h) = let w : refuse (ring_out_of_range i) ≡ Value v next = rw (c, lt-ltb (key_of z) 2147483648 h) at e in clash (cc)
+      go (below c n q u h) = let w : Err (RingOutOfRange i) ≡ Value v next = rw (c, lt-ltb (key_of z) 2147483648 h) at e in clash (cc)
       go (above c u h k) = whole u (rw k (rw (c, le-ltb (key_of z) 2147483648 h) at e))
 
-  due_refused : (m p : ℕ) → due_in_list limit (state_of b) (key_of z) i ≡ Refused m p → DueJudged limit b z i (answer m p)
+  due_refused : (r : Refusal) → due_in_list limit (state_of b) (key_of z) i ≡ Err r → DueJudged limit b z i (answer_of r)
   unfolding due_in_list
-  due_refused m p e = go (sign b z)
+  due_refused r e = go (sign b z)
     where
-      whole : Natural b z → judged_as limit (state_of b) (keyed b z) i (i + 1) ≡ Refused m p → DueJudged limit b z i (answer m p)
+      whole : Natural b z → judged_as limit (state_of b) (keyed b z) i (i + 1) ≡ Err r → DueJudged limit b z i (answer_of r)
       whole u q =
-          let j = judged_refused limit (state_of b) (keyed b z) i (i + 1) m p q in
-          subst⁻¹ (λ (a : Answer). DueJudged limit b z i a) (ap₂ answer j.1.0 j.1.1) ((verdict limit (lit≤ tt) b z i g u).refused j.0)
+          let j = judged_refused limit (state_of b) (keyed b z) i (i + 1) r q in
+          subst⁻¹ (λ (f : Refusal). DueJudged limit b z i (answer_of f)) j.2 ((verdict limit (lit≤ tt) b z i g u).refused j.0 j.1)
 
-      go : Sign b z → DueJudged limit b z i (answer m p)
+      go : Sign b z → DueJudged limit b z i (answer_of r)
       go (coordinate c k u) = whole u (rw k (rw c at e))
       go (below c n q u h) =
-          let w : refuse (ring_out_of_range i) ≡ Refused m p = rw (c, lt-ltb (key_of z) 2147483648 h) at e in
-          let x : m ≡ number_of ring_out_of_range = cc in
-          let y : p ≡ i = cc in
-          rw (q, x, y) (negative limit b n i u)
+          let w : Err (RingOutOfRange i) ≡ Err r = rw (c, lt-ltb (key_of z) 2147483648 h) at e in
+          let x : r ≡ RingOutOfRange i = cc in
+          rw (q, x) (negative limit b n i u)
       go (above c u h k) = whole u (rw k (rw (c, le-ltb (key_of z) 2147483648 h) at e))
 
 -- ---- along the list
@@ -113,8 +113,8 @@ module _ (ns : List ℤ) (b : Begun) (s : State) (i : ℕ) (w : ListAt ns b s i)
       pub passed : Passed b (get_or ns i (pos 0)) i v next
       passed = due_value b (get_or ns i (pos 0)) i good v next (here r (Value v next) e q)
 
-      pub list_fault_free : fault_of limit s v ≡ 0
-      list_fault_free = subst⁻¹ (λ (t : State). fault_of limit t v ≡ 0) w.state passed.fault
+      pub list_fault_free : fault_of limit s v ≡ None
+      list_fault_free = subst⁻¹ (λ (t : State). fault_of limit t v ≡ None) w.state passed.fault
 
       pub list_at_next : ListAt ns (after b (get_or ns i (pos 0))) (next_of s v) next
       list_at_next =
@@ -124,15 +124,15 @@ module _ (ns : List ℤ) (b : Begun) (s : State) (i : ℕ) (w : ListAt ns b s i)
             within = omega (arith, passed.place);
           }
 
-    pub list_refused : (r : Reading) (m p : ℕ) → r ≡ due_in_list limit s (key_of (get_or ns i (pos 0))) i → r ≡ Refused m p → ListFault limit ns (answer m p)
-    list_refused r m p e q =
+    pub list_refused : (r : Reading) (f : Refusal) → r ≡ due_in_list limit s (key_of (get_or ns i (pos 0))) i → r ≡ Err f → ListFault limit ns (answer_of f)
+    list_refused r f e q =
         record {
           begun = b;
           front = take i ns;
           rest = drop i ns;
           is = sym (take-append-drop i ns);
           begins = w.list;
-          due = inr (λ a j. nonempty j.0.0, (get_or ns i (pos 0), drop (suc i) ns, drop-cons ns i (pos 0) lt, rw (length-take-le i ns w.within) (due_refused b (get_or ns i (pos 0)) i good m p (here r (Refused m p) e q))));
+          due = inr (λ a j. nonempty j.0.0, (get_or ns i (pos 0), drop (suc i) ns, drop-cons ns i (pos 0) lt, rw (length-take-le i ns w.within) (due_refused b (get_or ns i (pos 0)) i good f (here r (Err f) e q))));
         }
       where
         nonempty : drop i ns ≡ [] → ⊥

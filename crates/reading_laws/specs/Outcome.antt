@@ -9,9 +9,7 @@ use Rattle.meaning.specs.Numbers.{limit}
 use Rattle.meaning.specs.Answers.{Answer, Row}
 use Rattle.meaning.specs.Rings.{Ring, GoodRings, ring_numbers}
 use Rattle.meaning.specs.Faults.{ListFault}
-use Rattle.numbers.specs.Reading.{Refuses}
-use Rattle.numbers.specs.declared.Reading.{Reading}
-use Rattle.numbers.specs.declared.Reading.TheVariants.{Value}
+use Rattle.numbers.specs.Reading.{Reading, Value, Refuses}
 
 pub record Made {B C : Type 0} (form : List Ring → List C) (make : List Ring → List B) (f : List C) (out : List B) (r : Reading) (after : List B) : Type 0 where
   pub rings : List Ring

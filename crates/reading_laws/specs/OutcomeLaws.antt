@@ -6,7 +6,7 @@
 --   settled_refused          the first outcome, or the room, refuses
 --   made_refused             the second outcome does not refuse after that
 --   made_done                it is the accepted answer
-use Rattle.std.specs.Prelude.{◌≡◌, refl, ℕ, ◌≤◌, ◌<◌, ℤ}
+use Rattle.std.specs.Prelude.{◌≡◌, refl, Result, Ok, Err, ℕ, ◌≤◌, ◌<◌, ℤ}
 use Rattle.std.proofs.Math.Path.{sym, ap, subst⁻¹}
 use Rattle.std.proofs.Common.{subst, ◌∙◌, inl, inr, arith}
 use mathlib.Core.List.{List, ◌++◌}
@@ -15,23 +15,25 @@ use Rattle.std.proofs.Math.ListN.{length, drop}
 use borrow.Author.Tests.{lt-ltb, le-ltb}
 use Rattle.basic_laws.specs.Stores.{sets_all}
 use Rattle.meaning.specs.Numbers.{limit}
-use Rattle.meaning.specs.Answers.{Answer, answer, Row, accepted, room_too_short}
+use Rattle.meaning.specs.Answers.{Answer, Row, accepted, room_too_short}
 use Rattle.meaning.specs.Rings.{Ring, GoodRings, ring_numbers}
 use Rattle.meaning.specs.MaskFile.{five, longest, bytes_of}
 use Rattle.meaning.specs.Faults.{FileFault, ListFault, Laid, Read, OfList}
 use Rattle.ring_laws.specs.Groups.{clash}
 use Rattle.ring_laws.specs.Meet.{list_fault_none, one_list, one_file}
 use Rattle.ring_laws.specs.Calls.{holds, some, file_fault_none, read_fault, read_laid, list_fault, list_laid, laid_short, laid_done}
-use Rattle.numbers.specs.Reading.{answer_of, refuse, settled_of, Refuses}
-use Rattle.numbers.specs.declared.Reading.{Reading}
-use Rattle.numbers.specs.declared.Reading.TheVariants.{Value, Refused}
+use Rattle.answers.specs.Told.{answer_of, told}
+use Rattle.answers.specs.declared.Refusal.{Refusal}
+use Rattle.answers.specs.declared.Refusal.TheVariants.{RoomTooShort}
+use Rattle.numbers.specs.Reading.{Reading, Value, settled_of, Refuses}
+use Rattle.numbers.specs.declared.Number.{Number}
 use Rattle.reading_laws.specs.Outcome.{Made, Outcome}
 
-pub refuses : (Fault : Row Answer) (a : Answer) → Fault a → Refuses Fault (refuse a)
-refuses Fault a x = record { number = a.number; value = a.value; is = refl; fault = x }
+pub refuses : (Fault : Row Answer) (f : Refusal) → Fault (answer_of f) → Refuses Fault (Err f)
+refuses Fault f x = record { refusal = f; is = refl; fault = x }
 
-pub refuses_read : (Fault : Row Answer) (r : Reading) (n p : ℕ) → r ≡ Refused n p → Fault (answer n p) → Refuses Fault r
-refuses_read Fault r n p q x = record { number = n; value = p; is = q; fault = subst⁻¹ (λ (s : Reading). Fault (answer_of s)) q x }
+pub refuses_read : (Fault : Row Answer) (r : Reading) (f : Refusal) → r ≡ Err f → Fault (answer_of f) → Refuses Fault r
+refuses_read Fault r f q x = record { refusal = f; is = q; fault = x }
 
 -- ---- the tables
 
@@ -59,6 +61,11 @@ file_table f out h =
       one = one_file five limit some holds;
     }
 
+-- ---- a refusal that is handed on
+
+handed : (a : Result ℕ Refusal) (g h : Refusal) → a ≡ Err g → ◌≡◌ {A = Reading} (Err g) (Err h) → a ≡ Err h
+handed a g h s q = let i : g ≡ h = cc in s ∙ ap Err i
+
 -- ---- a call: r is the outcome with no room, and j what the call goes on with
 
 module _ {B C : Type 0} {Fault : Row Answer} {form : List Ring → List C} {make : List Ring → List B} {f : List C} {out : List B} {T : Row (Answer × List B)} (t : Table Fault form make f out T) (none none' : List B) (r j : Reading) (o : Outcome Fault form make f none r none') (e : j ≡ settled_of r (length out)) where
@@ -67,7 +74,7 @@ module _ {B C : Type 0} {Fault : Row Answer} {form : List Ring → List C} {make
     needed : ℕ
     needed = length (make x.rings)
 
-    short : length out < needed → j ≡ refuse (room_too_short needed)
+    short : length out < needed → j ≡ Err (RoomTooShort needed)
     unfolding settled_of needed
     short h = e ∙ rw (x.is, lt-ltb (length out) (length (make x.rings)) h)
 
@@ -75,49 +82,49 @@ module _ {B C : Type 0} {Fault : Row Answer} {form : List Ring → List C} {make
     unfolding settled_of needed
     enough h = e ∙ rw (x.is, le-ltb (length out) (length (make x.rings)) h)
 
-  kept : (n p : ℕ) → r ≡ Refused n p → j ≡ Refused n p
+  kept : (g : Refusal) → r ≡ Err g → j ≡ Err g
   unfolding settled_of
-  kept n p q = e ∙ rw q
+  kept g q = e ∙ rw q
 
-  pub settled_refused : (n p : ℕ) (a : Answer) → j ≡ Refused n p → a ≡ answer_of j → T (a, out)
+  pub settled_refused : (g : Refusal) (a : Result ℕ Refusal) → j ≡ Err g → a ≡ Err g → T (told a, out)
   unfolding needed
-  settled_refused n p a q s = go o
+  settled_refused g a q s = go o
     where
-      lies : (x : Made form make f none r none') → Dec (length out < needed x) → T (a, out)
+      lies : (x : Made form make f none r none') → Dec (length out < needed x) → T (told a, out)
       lies x (yes h) =
-          subst⁻¹ (λ (b : Answer). T (b, out)) (s ∙ ap answer_of (short x h))
+          subst⁻¹ (λ (b : Result ℕ Refusal). T (told b, out)) (handed a g (RoomTooShort (needed x)) s (sym q ∙ short x h))
           (t.laid x.rings (room_too_short (needed x), out) x.good x.from (laid_short (make x.rings) out h))
-      lies x (no h) = let w : Value (needed x) (length f) ≡ Refused n p = sym (enough x (omega arith)) ∙ q in clash (cc)
+      lies x (no h) = let w : Value (needed x) (length f) ≡ Err g = sym (enough x (omega arith)) ∙ q in clash (cc)
 
-      go : Outcome Fault form make f none r none' → T (a, out)
-      go (inl x) = subst⁻¹ (λ (b : Answer). T (b, out)) (s ∙ ap answer_of (kept x.number x.value x.is ∙ sym x.is)) (t.faulty (answer_of r) x.fault)
+      go : Outcome Fault form make f none r none' → T (told a, out)
+      go (inl x) = subst⁻¹ (λ (b : Result ℕ Refusal). T (told b, out)) (handed a g x.refusal s (sym q ∙ kept x.refusal x.is)) (t.faulty (answer_of x.refusal) x.fault)
       go (inr x) = lies x (dec_lt (length out) (needed x))
 
-  module _ (v next : ℕ) (q : j ≡ Value v next) where
+  module _ (m : Number) (q : j ≡ Ok m) where
     first : (x : Made form make f none r none') × (needed x ≤ length out)
     first = go o
       where
         lies : (x : Made form make f none r none') → Dec (length out < needed x) → (x : Made form make f none r none') × (needed x ≤ length out)
-        lies x (yes h) = let w : refuse (room_too_short (needed x)) ≡ Value v next = sym (short x h) ∙ q in clash (cc)
+        lies x (yes h) = let w : Err (RoomTooShort (needed x)) ≡ Ok m = sym (short x h) ∙ q in clash (cc)
         lies x (no h) = (x, omega arith)
 
         go : Outcome Fault form make f none r none' → (x : Made form make f none r none') × (needed x ≤ length out)
-        go (inl x) = let w : Refused x.number x.value ≡ Value v next = sym (kept x.number x.value x.is) ∙ q in clash (cc)
+        go (inl x) = let w : Err x.refusal ≡ Ok m = sym (kept x.refusal x.is) ∙ q in clash (cc)
         go (inr x) = lies x (dec_lt (length out) (needed x))
 
     -- s is the outcome in the buffer lent
-    module _ (s : Reading) (n p : ℕ) (a : Answer) (after : List B) where
-      pub made_refused : Outcome Fault form make f out s after → s ≡ Refused n p → T (a, after)
-      made_refused (inl x) z = absurd (t.sound first.0.rings first.0.good first.0.from (answer_of s) x.fault)
-      made_refused (inr x) z = let w : Value (length (make x.rings)) (length f) ≡ Refused n p = sym x.is ∙ z in clash (cc)
+    module _ (s : Reading) (a : Result ℕ Refusal) (after : List B) where
+      pub made_refused : (g : Refusal) → Outcome Fault form make f out s after → s ≡ Err g → T (told a, after)
+      made_refused g (inl x) z = absurd (t.sound first.0.rings first.0.good first.0.from (answer_of x.refusal) x.fault)
+      made_refused g (inr x) z = let w : Value (length (make x.rings)) (length f) ≡ Err g = sym x.is ∙ z in clash (cc)
 
-      pub made_done : Outcome Fault form make f out s after → s ≡ Value n p → a ≡ accepted n → T (a, after)
+      pub made_done : (n : Number) → Outcome Fault form make f out s after → s ≡ Ok n → a ≡ Ok n.value → T (told a, after)
       unfolding needed
-      made_done (inl x) z i = absurd (t.sound first.0.rings first.0.good first.0.from (answer_of s) x.fault)
-      made_done (inr x) z i =
-          let w : Value n p ≡ Value (length (make x.rings)) (length f) = sym z ∙ x.is in
-          let m : n ≡ length (make x.rings) = cc in
+      made_done n (inl x) z i = absurd (t.sound first.0.rings first.0.good first.0.from (answer_of x.refusal) x.fault)
+      made_done n (inr x) z i =
+          let w : Ok n ≡ Value (length (make x.rings)) (length f) = sym z ∙ x.is in
+          let v : n.value ≡ length (make x.rings) = cc in
           let k : first.0.rings ≡ x.rings = t.one first.0.rings x.rings first.0.good x.good (sym first.0.from ∙ x.from) in
           let h : length (make x.rings) ≤ length out = omega (arith, first.1, ap (λ (rs : List Ring). length (make rs)) k) in
           let u : after ≡ make x.rings ++ drop (length (make x.rings)) out = x.wrote ∙ sets_all (make x.rings) out h in
-          rw (i, m, u) (t.laid x.rings (accepted (length (make x.rings)), make x.rings ++ drop (length (make x.rings)) out) x.good x.from (laid_done (make x.rings) out h))
+          rw (i, v, u) (t.laid x.rings (accepted (length (make x.rings)), make x.rings ++ drop (length (make x.rings)) out) x.good x.from (laid_done (make x.rings) out h))

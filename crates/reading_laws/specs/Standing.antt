@@ -3,14 +3,14 @@
 --
 --   outside_key      out of range, as the code tests it
 --   meets_beside     equal to a cyclic neighbour, as the code tests it
---   verdict          the code's fault of a due number is its answer in the paper's table, and 0 where it has none
+--   verdict          the code's fault of a due number is its answer in the paper's table, and None where it has none
 --   negative         a layer or a k below 0
 --   next_state       the next state
 --   not_end          where a ring list may end, the code lets it
 --   sane, keyed_most   bounds of a state, and of a due number with no fault
-use Rattle.std.specs.Prelude.{◌≡◌, refl, Bool, true, false, not, ◌≢◌, List, [], ◌∷◌, ◌++◌, ltb, ℤ, pos, negsuc, length}
+use Rattle.std.specs.Prelude.{◌≡◌, refl, Option, Some, None, Bool, true, false, not, ◌≢◌, List, [], ◌∷◌, ◌++◌, ltb, ℤ, pos, negsuc, length}
 use Rattle.std.proofs.Common.{sym, ap, subst, ◌∙◌, arith, lit≤, lt-ltb, le-ltb, le-leb, eq-eqb, ne_eqb}
-use Rattle.std.proofs.Math.Path.{ap₂, subst⁻¹}
+use Rattle.std.proofs.Math.Path.{ap₂}
 use Rattle.std.proofs.Math.Bool.{true≢false}
 use Rattle.std.proofs.lemmas.Bool.{false≢true, lt-leb}
 use Rattle.std.proofs.Math.Logic.{inl, inr}
@@ -20,7 +20,7 @@ use Rattle.std.specs.Int.Signed.{mag}
 use Rattle.basic_laws.specs.Signed.{key_of, key_inj}
 use Rattle.basic_laws.specs.Lists.{map_append}
 use Rattle.meaning.specs.Numbers.{pick, limit, in_range}
-use Rattle.meaning.specs.Answers.{answer, ring_out_of_range, neighbours_equal, too_many_pairs}
+use Rattle.meaning.specs.Answers.{Answer, ring_out_of_range}
 use Rattle.meaning.specs.Rings.{Pair, pair, Ring, ring, All, xs, ys, pairs_in}
 use Rattle.meaning.specs.Faults.{Begun, at_layer, at_count, at_x, at_y, after, Beside, DueJudged, previous_or, previous, MayEnd}
 use Rattle.ring_laws.specs.Groups.{clash}
@@ -28,7 +28,9 @@ use Rattle.ring_laws.specs.Differences.{pos_inj, within_range}
 use Rattle.ring_laws.specs.Neighbours.{previous_from}
 use Rattle.ring_laws.specs.Beginnings.{Fine, FineAt, fine_layer, fine_count, count_few, fine_x, fine_y, layer_fine, count_fine, x_fine, y_fine, Good, pairs_snoc, length_snoc, length_xs, length_ys}
 use Rattle.ring_laws.specs.Forms.{range_xs, range_ys, previous_size}
-use Rattle.numbers.specs.Reading.{number_of}
+use Rattle.answers.specs.Told.{answer_of}
+use Rattle.answers.specs.declared.Refusal.{Refusal}
+use Rattle.answers.specs.declared.Refusal.TheVariants.{RingOutOfRange, NeighboursEqual, TooManyPairs}
 use Rattle.rings.specs.State.{greatest, start, outside, meets, coordinate_fault, fault_of, first_of, next_by, next_of, Sane, may_end}
 use Rattle.reading_laws.specs.StateOf.{is_none, first_or, state_of, keyed}
 
@@ -111,10 +113,10 @@ none_ys (p ∷ ps) = refl
 
 -- ---- the fault of the due number
 
--- r is the answer's number in the paper's table for z at p, or 0 where z has no fault
-pub record Verdict (L : ℕ) (b : Begun) (z : ℤ) (p r : ℕ) : Type 0 where
-  pub fine : r ≡ 0 → Fine L b z
-  pub refused : (r ≡ 0 → ⊥) → DueJudged L b z p (answer r p)
+-- r is the row of the paper's table for z, which takes its place p, or None where z has no fault
+pub record Verdict (L : ℕ) (b : Begun) (z : ℤ) (p : ℕ) (r : Option (ℕ → Refusal)) : Type 0 where
+  pub fine : r ≡ None → Fine L b z
+  pub refused : (f : ℕ → Refusal) → r ≡ Some f → DueJudged L b z p (answer_of (f p))
 
 -- a layer or a k that is not negative; any coordinate
 abbrev pub Natural : Begun → ℤ → Type 0
@@ -123,43 +125,60 @@ Natural (at_count rs l) z = (n : ℕ) × (z ≡ pos n)
 Natural (at_x rs l k ps) z = Unit {0}
 Natural (at_y rs l k ps x) z = Unit {0}
 
-positive : {A : Type 0} (n : ℕ) → ◌≡◌ {A = ℕ} (suc n) 0 → A
-positive n e = absurd (omega arith)
+-- the row of a fault is known
+same_row : (J : Answer → Type 0) (f g : ℕ → Refusal) (p : ℕ) → Some f ≡ Some g → J (answer_of (f p)) → J (answer_of (g p))
+same_row J f g p e x = let i : f ≡ g = cc in subst (λ (h : ℕ → Refusal). J (answer_of (h p))) i x
 
-verdict_layer : (L : ℕ) (rs : List Ring) (n p : ℕ) → Verdict L (at_layer rs) (pos n) p (pick (ltb 7 n) (number_of ring_out_of_range) 0)
+verdict_layer : (L : ℕ) (rs : List Ring) (n p : ℕ) → Verdict L (at_layer rs) (pos n) p (pick (ltb 7 n) (Some RingOutOfRange) None)
 verdict_layer L rs n p = go (dec_le n 7)
   where
-    go : Dec (n ≤ 7) → Verdict L (at_layer rs) (pos n) p (pick (ltb 7 n) (number_of ring_out_of_range) 0)
-    go (yes h) = rw (le-ltb 7 n h) (record { fine = λ e. layer_fine L rs n h; refused = λ e. absurd (e refl) })
-    go (no h) = rw (lt-ltb 7 n (omega arith)) (record { fine = λ e. positive 14 e; refused = λ e. (λ i. h (omega (arith, i.low, pos_inj n i.layer i.is)), refl) })
+    go : Dec (n ≤ 7) → Verdict L (at_layer rs) (pos n) p (pick (ltb 7 n) (Some RingOutOfRange) None)
+    go (yes h) = rw (le-ltb 7 n h) (record { fine = λ e. layer_fine L rs n h; refused = λ f e. absurd (cc) })
+    go (no h) =
+        rw (lt-ltb 7 n (omega arith))
+        (record {
+          fine = λ e. absurd (cc);
+          refused = λ f e. same_row (DueJudged L (at_layer rs) (pos n) p) RingOutOfRange f p e (λ i. h (omega (arith, i.low, pos_inj n i.layer i.is)), refl);
+        })
 
-verdict_count : (L : ℕ) (rs : List Ring) (l n p : ℕ) → pairs_in rs ≤ 4096 → Verdict L (at_count rs l) (pos n) p (pick (ltb n 2) (number_of ring_out_of_range) (pick (ltb (4096 - pairs_in rs) n) (number_of too_many_pairs) 0))
+verdict_count : (L : ℕ) (rs : List Ring) (l n p : ℕ) → pairs_in rs ≤ 4096 → Verdict L (at_count rs l) (pos n) p (pick (ltb n 2) (Some RingOutOfRange) (pick (ltb (4096 - pairs_in rs) n) (Some TooManyPairs) None))
 verdict_count L rs l n p k = go (dec_le 2 n) (dec_le (pairs_in rs + n) 4096)
   where
-    go : Dec (2 ≤ n) → Dec (pairs_in rs + n ≤ 4096) → Verdict L (at_count rs l) (pos n) p (pick (ltb n 2) (number_of ring_out_of_range) (pick (ltb (4096 - pairs_in rs) n) (number_of too_many_pairs) 0))
-    go (no h) w = rw (lt-ltb n 2 (omega arith)) (record { fine = λ e. positive 14 e; refused = λ e. inl (λ i. h (omega (arith, i.two, pos_inj n i.count i.is)), refl) })
+    go : Dec (2 ≤ n) → Dec (pairs_in rs + n ≤ 4096) → Verdict L (at_count rs l) (pos n) p (pick (ltb n 2) (Some RingOutOfRange) (pick (ltb (4096 - pairs_in rs) n) (Some TooManyPairs) None))
+    go (no h) w =
+        rw (lt-ltb n 2 (omega arith))
+        (record {
+          fine = λ e. absurd (cc);
+          refused = λ f e. same_row (DueJudged L (at_count rs l) (pos n) p) RingOutOfRange f p e (inl (λ i. h (omega (arith, i.two, pos_inj n i.count i.is)), refl));
+        })
     go (yes h) (no w) =
         rw (le-ltb n 2 h, lt-ltb (4096 - pairs_in rs) n (omega arith))
-        (record { fine = λ e. positive 16 e; refused = λ e. inr (λ s i. i.0 (record { count = n; is = refl; two = h }), (record { count = n; is = refl; passes = omega arith }, refl)) })
-    go (yes h) (yes w) = rw (le-ltb n 2 h, le-ltb (4096 - pairs_in rs) n (omega arith)) (record { fine = λ e. count_fine L rs l n h w; refused = λ e. absurd (e refl) })
+        (record {
+          fine = λ e. absurd (cc);
+          refused = λ f e. same_row (DueJudged L (at_count rs l) (pos n) p) TooManyPairs f p e (inr (λ s i. i.0 (record { count = n; is = refl; two = h }), (record { count = n; is = refl; passes = omega arith }, refl)));
+        })
+    go (yes h) (yes w) = rw (le-ltb n 2 h, le-ltb (4096 - pairs_in rs) n (omega arith)) (record { fine = λ e. count_fine L rs l n h w; refused = λ f e. absurd (cc) })
 
 module _ (L : ℕ) (h : L < 2147483648) where
   -- an x or a y: J is its table, and F says that it has no fault
-  verdict_coordinate : (zs : List ℤ) (k : ℕ) (z d : ℤ) → length zs < k → All (λ y. in_range L y ≡ true) zs → (F : Type 0) (J : ℕ → Type 0) → (FineAt L zs k z → F) → (in_range L z ≡ false → J (number_of ring_out_of_range)) → (in_range L z ≡ true → Beside zs k z → J (number_of neighbours_equal)) → (r : ℕ) → r ≡ coordinate_fault L (is_none zs) (k - suc (length zs)) (key_of z) (key_of (previous zs)) (key_of (first_or d zs)) → (r ≡ 0 → F) × ((r ≡ 0 → ⊥) → J r)
-  verdict_coordinate zs k z d s e F J f j15 j16 r q = range (in_range L z) refl
+  verdict_coordinate : (zs : List ℤ) (k : ℕ) (z d : ℤ) → length zs < k → All (λ y. in_range L y ≡ true) zs → (F : Type 0) (J : (ℕ → Refusal) → Type 0) → (FineAt L zs k z → F) → (in_range L z ≡ false → J RingOutOfRange) → (in_range L z ≡ true → Beside zs k z → J NeighboursEqual) → (r : Option (ℕ → Refusal)) → r ≡ coordinate_fault L (is_none zs) (k - suc (length zs)) (key_of z) (key_of (previous zs)) (key_of (first_or d zs)) → (r ≡ None → F) × ((f : ℕ → Refusal) → r ≡ Some f → J f)
+  verdict_coordinate zs k z d s e F J fine j15 j16 r q = range (in_range L z) refl
     where
       m : Bool
       m = meets (is_none zs) (k - suc (length zs)) (key_of z) (key_of (previous zs)) (key_of (first_or d zs))
 
-      near : (t : Bool) → m ≡ t → in_range L z ≡ true → r ≡ pick t (number_of neighbours_equal) 0 → (r ≡ 0 → F) × ((r ≡ 0 → ⊥) → J r)
-      near true x i w = (λ u. positive 15 (sym w ∙ u), λ u. subst⁻¹ J w (j16 i ((meets_beside L h zs k z d s e i true x).0 refl)))
-      near false x i w = (λ u. f (i, (meets_beside L h zs k z d s e i false x).1 refl), λ u. absurd (u w))
+      row : (f g : ℕ → Refusal) → r ≡ Some f → r ≡ Some g → J f → J g
+      row f g x y j = let w : Some f ≡ Some g = sym x ∙ y in let i : f ≡ g = cc in subst J i j
 
-      range : (t : Bool) → in_range L z ≡ t → (r ≡ 0 → F) × ((r ≡ 0 → ⊥) → J r)
+      near : (t : Bool) → m ≡ t → in_range L z ≡ true → r ≡ pick t (Some NeighboursEqual) None → (r ≡ None → F) × ((f : ℕ → Refusal) → r ≡ Some f → J f)
+      near true x i w = (λ u. absurd (cc), λ f u. row NeighboursEqual f w u (j16 i ((meets_beside L h zs k z d s e i true x).0 refl)))
+      near false x i w = (λ u. fine (i, (meets_beside L h zs k z d s e i false x).1 refl), λ f u. absurd (cc))
+
+      range : (t : Bool) → in_range L z ≡ t → (r ≡ None → F) × ((f : ℕ → Refusal) → r ≡ Some f → J f)
       range false i =
-          let w : r ≡ number_of ring_out_of_range = q ∙ ap (λ (o : Bool). pick o (number_of ring_out_of_range) (pick m (number_of neighbours_equal) 0)) (outside_key L z h ∙ ap not i) in
-          (λ u. positive 14 (sym w ∙ u), λ u. subst⁻¹ J w (j15 i))
-      range true i = near m refl i (q ∙ ap (λ (o : Bool). pick o (number_of ring_out_of_range) (pick m (number_of neighbours_equal) 0)) (outside_key L z h ∙ ap not i))
+          let w : r ≡ Some RingOutOfRange = q ∙ ap (λ (o : Bool). pick o (Some RingOutOfRange) (pick m (Some NeighboursEqual) None)) (outside_key L z h ∙ ap not i) in
+          (λ u. absurd (cc), λ f u. row RingOutOfRange f w u (j15 i))
+      range true i = near m refl i (q ∙ ap (λ (o : Bool). pick o (Some RingOutOfRange) (pick m (Some NeighboursEqual) None)) (outside_key L z h ∙ ap not i))
 
   pub verdict : (b : Begun) (z : ℤ) (p : ℕ) → Good L b → Natural b z → Verdict L b z p (fault_of L (state_of b) (keyed b z))
   unfolding fault_of
@@ -167,11 +186,11 @@ module _ (L : ℕ) (h : L < 2147483648) where
   verdict (at_count rs l) z p g (n, e) = rw e (verdict_count L rs l n p g.0.few)
   verdict (at_x rs l k ps) z p g u =
       let q = ap₂ (λ (t : Bool) (n : ℕ). coordinate_fault L t (k - suc n) (key_of z) (key_of (previous (xs ps))) (key_of (first_or (pos 0) (xs ps)))) (sym (none_xs ps)) (sym (length_xs ps)) in
-      let v = verdict_coordinate (xs ps) k z (pos 0) (omega (arith, length_xs ps, g.short)) (range_xs L ps g.range) (Fine L (at_x rs l k ps) z) (λ r. DueJudged L (at_x rs l k ps) z p (answer r p)) (x_fine L rs l k ps z) (λ i. inl (i, refl)) (λ i s. inr (λ a j. true≢false (sym i ∙ j.0), (s, refl))) (fault_of L (state_of (at_x rs l k ps)) (key_of z)) q in
+      let v = verdict_coordinate (xs ps) k z (pos 0) (omega (arith, length_xs ps, g.short)) (range_xs L ps g.range) (Fine L (at_x rs l k ps) z) (λ f. DueJudged L (at_x rs l k ps) z p (answer_of (f p))) (x_fine L rs l k ps z) (λ i. inl (i, refl)) (λ i s. inr (λ a j. true≢false (sym i ∙ j.0), (s, refl))) (fault_of L (state_of (at_x rs l k ps)) (key_of z)) q in
       record { fine = v.0; refused = v.1 }
   verdict (at_y rs l k ps x) z p g u =
       let q = ap₂ (λ (t : Bool) (n : ℕ). coordinate_fault L t (k - suc n) (key_of z) (key_of (previous (ys ps))) (key_of (first_or (pos 0) (ys ps)))) (sym (none_ys ps)) (sym (length_ys ps)) in
-      let v = verdict_coordinate (ys ps) k z (pos 0) (omega (arith, length_ys ps, g.0.short)) (range_ys L ps g.0.range) (Fine L (at_y rs l k ps x) z) (λ r. DueJudged L (at_y rs l k ps x) z p (answer r p)) (y_fine L rs l k ps x z) (λ i. inl (i, refl)) (λ i s. inr (λ a j. true≢false (sym i ∙ j.0), (s, refl))) (fault_of L (state_of (at_y rs l k ps x)) (key_of z)) q in
+      let v = verdict_coordinate (ys ps) k z (pos 0) (omega (arith, length_ys ps, g.0.short)) (range_ys L ps g.0.range) (Fine L (at_y rs l k ps x) z) (λ f. DueJudged L (at_y rs l k ps x) z p (answer_of (f p))) (y_fine L rs l k ps x z) (λ i. inl (i, refl)) (λ i s. inr (λ a j. true≢false (sym i ∙ j.0), (s, refl))) (fault_of L (state_of (at_y rs l k ps x)) (key_of z)) q in
       record { fine = v.0; refused = v.1 }
 
 -- a layer or a k below 0

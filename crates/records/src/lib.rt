@@ -13,10 +13,10 @@ pub fn coordinate(u: u32) -> i32
     requires { u ≤ 2147483648 }
     ensures { result ≡ step limit u }
 {
-    (u as i64 - Scanline::LIMIT as i64) as i32
+    (i64::from(u) - i64::from(Scanline::LIMIT)) as i32
 }
 
-// Record number n, if there is room for it.
+// Record number n, if there is room for it. The buffer is the caller's, here and in `verticals` and `parts`: there is no heap, so none is made, and the number says where the record goes.
 fn store(out: &mut [i32], n: usize, kind: i32, place: i32, from: i32, to: i32)
     ensures { out.new ≡ store_at out.old n kind place from to }
 {

@@ -1,2 +1,3 @@
--- What the parts of the edge maker write.
+-- What the parts of the edge maker write, and the laws of the edges that are made.
 pub mod Ended
+pub mod Begun

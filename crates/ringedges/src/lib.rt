@@ -5,16 +5,17 @@ ghost use Rattle.std.specs.Prelude.{◌≡◌, ◌+◌, ◌≤◌, ◌<◌, leng
 ghost use Rattle.std.proofs.lemmas.List.Edits.{sets};
 ghost use Rattle.meaning.specs.Rings.{ring_edges};
 ghost use Rattle.meaning.specs.Faults.{Edged};
-ghost use Rattle.answers.specs.Said.{said};
+ghost use Rattle.answers.specs.Told.{told};
 ghost use Rattle.rings.specs.State.{greatest, Sane};
-ghost use Rattle.reading_laws.specs.Outcome.{ListOutcome};
 ghost use Rattle.ringedges.specs.Ended.{edge_at, ended};
+ghost use Rattle.ringedges.specs.Begun.{Edges_begun, edges_laws};
 
-use answers::Answer;
-use numbers::Reading;
+use answers::Refusal;
 use rings::{Due, State};
+use ringwalk::Made;
 
 // Writes an edge at n, as far as there is room, and returns the place after it.
+#[tactic(auto, unfolding(crate::specs::Ended::edge_at))]
 fn put_edge(out: &mut [i32], n: usize, layer: u64, y: u64, from: u64, to: u64) -> usize
     requires { (layer ≤ 7) × ((y < 4294967296) × ((from < 4294967296) × ((to < 4294967296) × (n ≤ 18446744073709551611)))) }
     ensures { (result ≡ n + 4) × (out.new ≡ sets out.old n (edge_at layer y from to)) }
@@ -27,12 +28,12 @@ fn put_edge(out: &mut [i32], n: usize, layer: u64, y: u64, from: u64, to: u64) -
 }
 
 // Writes the edge that the due number v ends, if it ends one.
+#[tactic(auto, unfolding(crate::specs::Ended::ended, crate::specs::Ended::edge_at))]
 fn put_ended(out: &mut [i32], n: usize, s: State, v: u64) -> usize
     requires { (Sane s) × ((v ≤ greatest) × (n ≤ 18446744073709551611)) }
     ensures { (result ≡ n + length (ended s v)) × (out.new ≡ sets out.old n (ended s v)) }
 {
-    let due = s.due;
-    match due {
+    match s.due {
         Due::Layer => n,
         Due::Count => n,
         Due::X => {
@@ -42,8 +43,7 @@ fn put_ended(out: &mut [i32], n: usize, s: State, v: u64) -> usize
             put_edge(out, n, s.layer, s.py, s.px, v)
         }
         Due::Y => {
-            let more = s.more;
-            if more == 0 {
+            if s.more == 0 {
                 return put_edge(out, n, s.layer, v, s.px, s.fx);
             }
             n
@@ -51,41 +51,35 @@ fn put_ended(out: &mut [i32], n: usize, s: State, v: u64) -> usize
     }
 }
 
-// Goes through a ring list, and writes its edges as far as there is room: the value is how many numbers they are.
-fn edges_from(list: &[i32], out: &mut [i32]) -> Reading
-    ensures { ListOutcome ring_edges list.now out.old result out.new }
-{
-    let mut s = rings::begin();
-    let mut i: usize = 0;
-    let mut n: usize = 0;
-    while i < list.len() {
-        let number = rings::due_in(list, i, s);
-        let Reading::Value(v, next) = number else {
-            return number;
-        };
-        n = put_ended(out, n, s, v);
-        s = rings::after(s, v);
-        i = next;
+// The numbers of edges, as what is made of a ring list.
+struct Edges;
+
+impl Made for Edges {
+    type Item = i32;
+
+    ghost begins = { Edges_begun };
+
+    ghost adds = { ended };
+
+    ghost make = { ring_edges };
+
+    ghost laws = { edges_laws };
+
+    fn begin(_: &mut [i32]) -> usize {
+        0
     }
-    let due = s.due;
-    if rings::may_end(due) {
-        return Reading::Value(n as u64, i);
+
+    fn add(out: &mut [i32], n: usize, s: State, v: u64) -> usize {
+        put_ended(out, n, s, v)
     }
-    Reading::Refused(12, list.len())
 }
 
-// The edges of a ring list.
-pub fn edges_of(rings: &[i32], edges: &mut [i32]) -> Answer
-    ensures { Edged rings.now edges.old (said result, edges.new) }
+// The edges of a ring list: how many numbers were written, or the refusal.
+pub fn edges_of(rings: &[i32], edges: &mut [i32]) -> Result<u64, Refusal>
+    ensures { Edged rings.now edges.old (told result, edges.new) }
 {
     let mut none = [0i32; 1];
-    let judged = numbers::settled(edges_from(rings, &mut none), edges.len());
-    let Reading::Value(_, _) = judged else {
-        return numbers::answer(judged);
-    };
-    let made = edges_from(rings, edges);
-    let Reading::Value(written, _) = made else {
-        return numbers::answer(made);
-    };
-    answers::accepted(written)
+    numbers::settled(ringwalk::walk::<Edges>(rings, &mut none), edges.len())?;
+    let written = ringwalk::walk::<Edges>(rings, edges)?;
+    Ok(written.value)
 }

@@ -2,17 +2,17 @@
 --
 --   greatest          how the greatest coordinate stands
 --   start room        between rings, where other rings may have so many pairs
---   fault_of L s v     the number of the refusal of the due number v, or 0
+--   fault_of L s v     the row of the refusal of the due number v, which takes the place, where it has a fault
+--   placed f at        that fault at a place
 --   next_of s v        what is known after it
 --   judged_as ..       the due number as a reader answers it
 --   due_in_list ..      the due number of a ring list, which stands 2^31 above itself
 --   Sane s            the bounds that every state reached has
-use Rattle.std.specs.Prelude.{Bool, true, false, ℕ, ◌+◌, ◌-◌, ◌≤◌, ltb, eqb}
+use Rattle.std.specs.Prelude.{Bool, true, false, ℕ, ◌+◌, ◌-◌, ◌≤◌, ltb, eqb, Option, Some, None, Result, Ok, Err}
 use Rattle.meaning.specs.Numbers.{pick, limit}
-use Rattle.meaning.specs.Answers.{ring_out_of_range, neighbours_equal, too_many_pairs}
-use Rattle.numbers.specs.Reading.{refuse, number_of}
-use Rattle.numbers.specs.declared.Reading.{Reading}
-use Rattle.numbers.specs.declared.Reading.TheVariants.{Value, Refused}
+use Rattle.answers.specs.declared.Refusal.{Refusal}
+use Rattle.answers.specs.declared.Refusal.TheVariants.{RingOutOfRange, NeighboursEqual, TooManyPairs}
+use Rattle.numbers.specs.Reading.{Reading, Value}
 use Rattle.rings.specs.declared.Due.{Due}
 use Rattle.rings.specs.declared.Due.TheVariants.{Layer, Count, X, Y}
 use Rattle.rings.specs.declared.State.{State}
@@ -32,17 +32,21 @@ outside L v = pick (ltb v (2147483648 - L)) true (ltb (2147483648 + L) v)
 abbrev pub meets : Bool → ℕ → ℕ → ℕ → ℕ → Bool
 meets fresh more v p f = pick fresh false (pick (eqb v p) true (pick (eqb more 0) (eqb v f) false))
 
-abbrev pub coordinate_fault : ℕ → Bool → ℕ → ℕ → ℕ → ℕ → ℕ
-coordinate_fault L fresh more v p f = pick (outside L v) (number_of ring_out_of_range) (pick (meets fresh more v p f) (number_of neighbours_equal) 0)
+abbrev pub coordinate_fault : ℕ → Bool → ℕ → ℕ → ℕ → ℕ → Option (ℕ → Refusal)
+coordinate_fault L fresh more v p f = pick (outside L v) (Some RingOutOfRange) (pick (meets fresh more v p f) (Some NeighboursEqual) None)
 
-abbrev pub fault_by : ℕ → Due → State → ℕ → ℕ
-fault_by L Layer s v = pick (ltb 7 v) (number_of ring_out_of_range) 0
-fault_by L Count s v = pick (ltb v 2) (number_of ring_out_of_range) (pick (ltb s.room v) (number_of too_many_pairs) 0)
+abbrev pub fault_by : ℕ → Due → State → ℕ → Option (ℕ → Refusal)
+fault_by L Layer s v = pick (ltb 7 v) (Some RingOutOfRange) None
+fault_by L Count s v = pick (ltb v 2) (Some RingOutOfRange) (pick (ltb s.room v) (Some TooManyPairs) None)
 fault_by L X s v = coordinate_fault L s.fresh s.more v s.px s.fx
 fault_by L Y s v = coordinate_fault L s.fresh s.more v s.py s.fy
 
-unfoldable pub fault_of : ℕ → State → ℕ → ℕ
+unfoldable pub fault_of : ℕ → State → ℕ → Option (ℕ → Refusal)
 fault_of L s v = fault_by L s.due s v
+
+abbrev pub placed : Option (ℕ → Refusal) → ℕ → Result Unit Refusal
+placed None at = Ok tt
+placed (Some f) at = Err (f at)
 
 -- ---- the next state
 
@@ -63,8 +67,12 @@ next_of s v = next_by s.due s v
 
 -- ---- readers
 
+abbrev pub judged_by : Option (ℕ → Refusal) → ℕ → ℕ → ℕ → Reading
+judged_by None v at next = Value v next
+judged_by (Some f) v at next = Err (f at)
+
 unfoldable pub judged_as : ℕ → State → ℕ → ℕ → ℕ → Reading
-judged_as L s v at next = pick (eqb (fault_of L s v) 0) (Value v next) (Refused (fault_of L s v) at)
+judged_as L s v at next = judged_by (fault_of L s v) v at next
 
 abbrev pub may_end : Due → Bool
 may_end Layer = true
@@ -79,7 +87,7 @@ is_coordinate X = true
 is_coordinate Y = true
 
 unfoldable pub due_in_list : ℕ → State → ℕ → ℕ → Reading
-due_in_list L s u i = pick (is_coordinate s.due) (judged_as L s u i (i + 1)) (pick (ltb u 2147483648) (refuse (ring_out_of_range i)) (judged_as L s (u - 2147483648) i (i + 1)))
+due_in_list L s u i = pick (is_coordinate s.due) (judged_as L s u i (i + 1)) (pick (ltb u 2147483648) (Err (RingOutOfRange i)) (judged_as L s (u - 2147483648) i (i + 1)))
 
 pub record Sane (s : State) : Type 0 where
   pub layer : s.layer ≤ 7

@@ -1,12 +1,13 @@
 // Judging rings number by number: what has been read, the fault of the number that is due, and what has been read after it.
 #![tactic(auto)]
 
-ghost use Rattle.std.specs.Prelude.{◌≡◌, ◌+◌, ◌<◌, pos, length, get_or, set};
+ghost use Rattle.std.specs.Prelude.{◌≡◌, ◌+◌, ◌<◌, None, pos, length, get_or, set};
 ghost use Rattle.basic_laws.specs.Signed.{key_of, unkey_of};
 ghost use Rattle.meaning.specs.Numbers.{limit};
-ghost use Rattle.rings.specs.State.{start, outside, meets, first_of, coordinate_fault, fault_of, next_of, judged_as, may_end, is_coordinate, due_in_list};
+ghost use Rattle.rings.specs.State.{start, outside, meets, first_of, coordinate_fault, fault_of, placed, next_of, judged_as, may_end, is_coordinate, due_in_list};
 
-use numbers::Reading;
+use answers::Refusal;
+use numbers::Number;
 use scanline::Scanline;
 
 // 2^31: a coordinate stands so far above itself.
@@ -25,7 +26,7 @@ const LAST: u64 = Scanline::LAYERS as u64 - 1;
 const PAIRS: u64 = 4096;
 
 // The number that is due.
-#[derive(Clone, Copy)]
+#[derive(Clone, Copy, Debug, PartialEq, Eq)]
 pub enum Due {
     Layer,
     Count,
@@ -35,8 +36,10 @@ pub enum Due {
 
 // What is known between two numbers. `more` are the pairs of the ring after the one that is due or begun, `room` the pairs that other rings may
 // still have; `fresh` says that no pair of the ring is whole yet. (px, py) is the pair before and (fx, fy) the ring's first: coordinates stand 2^31
-// above themselves.
-#[derive(Clone, Copy)]
+// above themselves. It stays one struct: `next_of` and `Sane` (specs/State.antt) speak of every field whichever number is due, and `fresh` is no
+// Option of (fx, fy), whose x is known a number before its y. `Sane` is not its invariant, since `state_of` (reading_laws/specs/StateOf.antt) is a
+// State of every beginning, also of one that is out of bounds.
+#[derive(Clone, Copy, Debug, PartialEq, Eq)]
 pub struct State {
     pub due: Due,
     pub layer: u64,
@@ -83,7 +86,7 @@ fn outside(v: u64) -> bool
     GREATEST < v
 }
 
-// Is a coordinate equal to that of a cyclic neighbour before it?
+// Is a coordinate equal to that of a cyclic neighbour before it? `fresh`, here and below, is what is known of the ring, and no choice of the caller's.
 fn meets(fresh: bool, more: u64, v: u64, p: u64, f: u64) -> bool
     ensures { result ≡ meets fresh more v p f }
 {
@@ -108,56 +111,61 @@ fn first_of(fresh: bool, v: u64, f: u64) -> u64
     f
 }
 
-fn coordinate_fault(fresh: bool, more: u64, v: u64, p: u64, f: u64) -> u64
-    ensures { result ≡ coordinate_fault limit fresh more v p f }
+// The fault of the coordinate v, which stands at `at`.
+fn coordinate_fault(
+    fresh: bool,
+    more: u64,
+    v: u64,
+    p: u64,
+    f: u64,
+    at: usize,
+) -> Result<(), Refusal>
+    ensures { result ≡ placed (coordinate_fault limit fresh more v p f) at }
 {
     if outside(v) {
-        return 15;
+        return Err(Refusal::RingOutOfRange(at));
     }
     if meets(fresh, more, v, p, f) {
-        return 16;
+        return Err(Refusal::NeighboursEqual(at));
     }
-    0
+    Ok(())
 }
 
-// The number of the refusal of the due number v, or 0.
-fn fault(s: State, v: u64) -> u64
-    ensures { result ≡ fault_of limit s v }
+// The fault of the due number v, which stands at `at`.
+#[tactic(auto, unfolding(crate::specs::State::fault_of))]
+fn fault(s: State, v: u64, at: usize) -> Result<(), Refusal>
+    ensures { result ≡ placed (fault_of limit s v) at }
 {
-    let due = s.due;
-    let room = s.room;
-    match due {
+    match s.due {
         Due::Layer => {
             if LAST < v {
-                return 15;
+                return Err(Refusal::RingOutOfRange(at));
             }
-            0
+            Ok(())
         }
         Due::Count => {
             if v < 2 {
-                return 15;
+                return Err(Refusal::RingOutOfRange(at));
             }
-            if room < v {
-                return 17;
+            if s.room < v {
+                return Err(Refusal::TooManyPairs(at));
             }
-            0
+            Ok(())
         }
-        Due::X => coordinate_fault(s.fresh, s.more, v, s.px, s.fx),
-        Due::Y => coordinate_fault(s.fresh, s.more, v, s.py, s.fy),
+        Due::X => coordinate_fault(s.fresh, s.more, v, s.px, s.fx, at),
+        Due::Y => coordinate_fault(s.fresh, s.more, v, s.py, s.fy, at),
     }
 }
 
 // The due number v, which stands at `at` and ends before `next`.
-pub fn judged(s: State, v: u64, at: usize, next: usize) -> Reading
+pub fn judged(s: State, v: u64, at: usize, next: usize) -> Result<Number, Refusal>
     ensures { result ≡ judged_as limit s v at next }
 {
-    let number = fault(s, v);
-    if number == 0 {
-        return Reading::Value(v, next);
-    }
-    Reading::Refused(number, at)
+    fault(s, v, at)?;
+    Ok(Number { value: v, next })
 }
 
+#[tactic(auto, unfolding(crate::specs::State::next_of))]
 fn after_x(s: State, v: u64) -> State
     requires { s.due ≡ Due.X }
     ensures { result ≡ next_of s v }
@@ -165,67 +173,48 @@ fn after_x(s: State, v: u64) -> State
     let fx = first_of(s.fresh, v, s.fx);
     State {
         due: Due::Y,
-        layer: s.layer,
-        more: s.more,
-        room: s.room,
-        fresh: s.fresh,
         px: v,
-        py: s.py,
-        fx: fx,
-        fy: s.fy,
+        fx,
+        ..s
     }
 }
 
+#[tactic(auto, unfolding(crate::specs::State::next_of))]
 fn after_y(s: State, v: u64) -> State
     requires { s.due ≡ Due.Y }
     ensures { result ≡ next_of s v }
 {
-    let more = s.more;
-    if more == 0 {
+    if s.more == 0 {
         return between(s.room);
     }
     let fy = first_of(s.fresh, v, s.fy);
     State {
         due: Due::X,
-        layer: s.layer,
-        more: more - 1,
-        room: s.room,
+        more: s.more - 1,
         fresh: false,
-        px: s.px,
         py: v,
-        fx: s.fx,
-        fy: fy,
+        fy,
+        ..s
     }
 }
 
 // What has been read after the due number v, which has no fault.
+#[tactic(auto, unfolding(crate::specs::State::next_of))]
 pub fn after(s: State, v: u64) -> State
-    requires { fault_of limit s v ≡ 0 }
+    requires { fault_of limit s v ≡ None }
     ensures { result ≡ next_of s v }
 {
-    let due = s.due;
-    match due {
+    match s.due {
         Due::Layer => State {
             due: Due::Count,
             layer: v,
-            more: s.more,
-            room: s.room,
-            fresh: s.fresh,
-            px: s.px,
-            py: s.py,
-            fx: s.fx,
-            fy: s.fy,
+            ..s
         },
         Due::Count => State {
             due: Due::X,
-            layer: s.layer,
             more: v - 1,
             room: s.room - v,
-            fresh: s.fresh,
-            px: s.px,
-            py: s.py,
-            fx: s.fx,
-            fy: s.fy,
+            ..s
         },
         Due::X => after_x(s, v),
         Due::Y => after_y(s, v),
@@ -252,12 +241,6 @@ fn number(list: &[i32], i: usize) -> u32
     whole::key(list[i])
 }
 
-fn wide(x: u32) -> u64
-    ensures { result ≡ x }
-{
-    x as u64
-}
-
 // Is the due number an x or a y?
 pub fn is_coordinate(due: Due) -> bool
     ensures { result ≡ is_coordinate due }
@@ -271,28 +254,27 @@ pub fn is_coordinate(due: Due) -> bool
 }
 
 // The due number of a ring list, which stands at i.
-pub fn due_in(list: &[i32], i: usize, s: State) -> Reading
+#[tactic(auto, unfolding(crate::specs::State::due_in_list))]
+pub fn due_in(list: &[i32], i: usize, s: State) -> Result<Number, Refusal>
     requires { i < length list.now }
     ensures { result ≡ due_in_list limit s (key_of (get_or list.now i (pos 0))) i }
 {
-    let u = wide(number(list, i));
-    let due = s.due;
-    if is_coordinate(due) {
+    let u = u64::from(number(list, i));
+    if is_coordinate(s.due) {
         return judged(s, u, i, i + 1);
     }
     if u < HALF {
-        return Reading::Refused(15, i);
+        return Err(Refusal::RingOutOfRange(i));
     }
     judged(s, u - HALF, i, i + 1)
 }
 
-// Writes at n, where there is room for it, the number that stands 2^31 below k.
+// Writes at n, where there is room for it, the number that stands 2^31 below k. It takes any u64 that fits: a narrower type would ask more.
 pub fn put(out: &mut [i32], n: usize, k: u64)
     requires { k < 4294967296 }
     ensures { out.new ≡ set out.old n (unkey_of k) }
 {
-    if out.len() <= n {
-        return;
+    if n < out.len() {
+        out[n] = whole::unkey(k as u32);
     }
-    out[n] = whole::unkey(k as u32);
 }

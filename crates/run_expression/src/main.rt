@@ -2,63 +2,48 @@
 // holds.
 #![tactic(auto)]
 
-ghost use Rattle.std.specs.Prelude.{◌≤◌, length};
+use console::Console;
+use std::fmt;
+use std::fmt::Write;
 
-fn main() {
-    let mut input = [0u8; 65536];
-    let n = io::read_full(0, &mut input);
-    answer_lines(&input[0..n]);
-}
-
-// Where the line that begins at `at` ends.
-fn line_end(input: &[u8], at: usize) -> usize
-    requires { at ≤ length input.now }
-    ensures { (at ≤ result) × (result ≤ length input.now) }
-{
-    let mut i = at;
-    while i < input.len() {
-        if input[i] == b'\n' {
-            return i;
-        }
-        i += 1;
-    }
-    i
-}
-
-fn answer_lines(input: &[u8]) {
-    let mut at: usize = 0;
-    while at < input.len() {
-        let end = line_end(input, at);
-        answer(&input[at..end]);
-        at = end + 1;
+// The number of the answer to a text as an expression.
+fn number(text: &[u8]) -> u64 {
+    match expression::judge(text) {
+        Ok(()) => 0,
+        Err(refusal) => refusal.number(),
     }
 }
 
 // The sum of m + 1 over the covers m at which the table holds.
 fn sum_of_covers(truth: &[bool; 256]) -> u64 {
-    let mut n: u64 = 0;
-    let mut m: usize = 0;
-    while m < 256 {
-        n += one_more(truth[m], m);
-        m += 1;
+    let mut n = 0;
+    for (m, holds) in truth.iter().enumerate() {
+        if *holds {
+            n += m as u64 + 1;
+        }
     }
     n
 }
 
-fn one_more(b: bool, m: usize) -> u64
-    requires { m ≤ 255 }
-    ensures { result ≤ 256 }
-{
-    if b { m as u64 + 1 } else { 0 }
+fn answer(out: &mut Console, text: &[u8]) -> fmt::Result {
+    let sum = sum_of_covers(&expression::table(text));
+    writeln!(out, "{} 0 {sum}", number(text))
 }
 
-fn put(n: u64, after: &[u8]) {
-    io::print_decimal(1, n);
-    io::write_all(1, after);
+// Each line ends at a line feed, or where the input ends.
+fn answer_lines(out: &mut Console, input: &[u8]) -> fmt::Result {
+    if input.is_empty() {
+        return Ok(());
+    }
+    let lines = input.strip_suffix(b"\n").unwrap_or(input);
+    for line in lines.split(|b| *b == b'\n') {
+        answer(out, line)?;
+    }
+    Ok(())
 }
 
-fn answer(text: &[u8]) {
-    let truth = expression::table(text);
-    put(expression::number(expression::judge(text)), b" 0 ");
-    put(sum_of_covers(&truth), b"\n");
+fn main() {
+    let mut input = [0u8; 65536];
+    let n = io::read_full(0, &mut input);
+    let _ = answer_lines(&mut Console, &input[0..n]);
 }

@@ -19,7 +19,7 @@ impl Counts {
         }
     }
 
-    // The counts past one crossing more, of an edge of this layer and direction: one of the eight is changed by one.
+    // The counts past one crossing more, of an edge of this layer and direction: one of the eight is changed by one. The specification names this form, direction and all.
     pub fn crossed(mut self, layer: usize, west: bool) -> Self
         requires { (layer < 8) × (0 < get_or self.raised layer 0) × (get_or self.raised layer 0 < 65535) }
         ensures { result ≡ crossed_by self layer west }

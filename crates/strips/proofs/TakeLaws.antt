@@ -1,4 +1,4 @@
--- What the loop of `take_over` keeps. Assumes nothing.
+-- What the loop of `take_over` keeps, and what `cross` hands on. Assumes nothing.
 use mathlib.Core.Path.{◌≡◌, refl, ap, ap₂, ◌∙◌}
 use mathlib.Core.List.{List}
 use Prim.Native.Nat.{ℕ, ◌+◌, ◌*◌, ◌<◌, ◌≤◌}
@@ -9,14 +9,14 @@ use lib.ListN.{length, get_or, set, length-set}
 use lib.Seq.{get_or-set_same, get_or-set_other}
 use Rattle.meaning.specs.Numbers.{bit}
 use Rattle.meaning.specs.Edges.{covers}
-use Rattle.strips.specs.Rows.{row_at, layer_fits}
+use Rattle.strips.specs.Rows.{row_at}
 use Rattle.strips.specs.Cover.{turned_to, Passed}
-use borrow.Author.Tests.{lt-ltb, le-ltb}
-use mathlib.Core.Bool.{Bool, true, false}
+use borrow.Author.Tests.{lt-ltb}
+use mathlib.Core.Bool.{Bool, true}
 use Rattle.scanline.specs.declared.Scanline.{Scanline}
 use Rattle.scanline.specs.Handed.{changed, fresh_line, past}
-use Rattle.scanline.specs.HandedLaws.{fresh_at, handed_on}
-use Rattle.strips.specs.Strips.{taken_over, Taken, TakeOk, CrossOk, Crossed}
+use Rattle.scanline.specs.HandedLaws.{handed_on}
+use Rattle.strips.specs.Strips.{taken_over, Taken, TakeOk, Crossed}
 
 -- ---- one pass: the places below r are done
 
@@ -49,27 +49,9 @@ pub record Taking (n l a b h r : ℕ) (c₀ c m₀ m : List ℕ) : Type 0 where
   pub layer : l * n + n ≤ 8 * n
   pub taken : Taken n l a r h c₀ c m₀ m
 
-pub taking_start : {n l a b h : ℕ} {c m : List ℕ} → TakeOk n l a b h c m → Taking n l a b h a c c m m
-taking_start {n} {l} {a} {b} {h} {c} {m} ok = record {
-  from = omega arith;
-  to = ok.order;
-  top = ok.top;
-  few = ok.few;
-  long = ok.long;
-  long_m = ok.covers;
-  layer = layer_fits n l ok.layer;
-  taken = record { counts = pass_start _ _ c; digits = pass_start _ _ m };
-}
-
 module _ {n l a b h r : ℕ} {c₀ c m₀ m : List ℕ} (ok : TakeOk n l a b h c₀ m₀) (S : Taking n l a b h r c₀ c m₀ m) (g : r < b) where
   row_old : row_at n c l r ≡ row_at n c₀ l r
   row_old = pass_here _ (l * n + a) (l * n + r) c₀ c S.taken.counts
-
-  pub row_enough : 8192 ≤ row_at n c l r + h
-  row_enough = omega (arith, row_old, ok.enough r S.from g)
-
-  pub row_fits : row_at n c l r + h < 65536
-  row_fits = omega (arith, row_old, ok.fits r S.from g)
 
   pub taking_turn : (d v : ℕ) → d ≡ bit (covers (pos (taken_over (row_at n c l r) h) -ℤ pos 8192)) → v ≡ turned_to (get_or m r 0) l d
       → Taking n l a b h (r + 1) c₀ (set c (l * n + r) (taken_over (row_at n c l r) h)) m₀ (set m r v)
@@ -88,35 +70,10 @@ module _ {n l a b h r : ℕ} {c₀ c m₀ m : List ℕ} (ok : TakeOk n l a b h c
     };
   }
 
-pub taking_done : {n l a b h r : ℕ} {c₀ c m₀ m : List ℕ} → Taking n l a b h r c₀ c m₀ m → b ≤ r → Taken n l a b h c₀ c m₀ m
-taking_done {n} {l} {a} {b} {h} {r} {c₀} {c} {m₀} {m} S g = let e : r ≡ b = omega (arith, S.to) in rw e at S.taken
-
 -- ---- `cross`: the counts that a fresh scanline hands on
-
-pub fresh_ready : (s : Scanline) (l : ℕ) → s ≡ fresh_line → l < 8 → (l < 8) × (s.passed < 65535) × (0 < get_or s.counts.raised l 0) × (get_or s.counts.raised l 0 < 65535)
-fresh_ready s l e h = rw e (h, omega arith, omega (arith, fresh_at l h), omega (arith, fresh_at l h))
 
 pub handed_is : (s s' : Scanline) (l : ℕ) (w : Bool) → s ≡ fresh_line → s' ≡ past s l w → l < 8 → get_or s'.counts.raised l 0 ≡ changed 8192 w
 handed_is s s' l w e e' h = rw (e', e) (handed_on l w h)
 
-around : (h : ℕ) (w : Bool) → h ≡ changed 8192 w → (8191 ≤ h) × (h ≤ 8193)
-around h true e = (omega arith, omega arith)
-around h false e = (omega arith, omega arith)
-
-pub cross_takes : {n l f t : ℕ} {c m : List ℕ} → CrossOk n l f t c m → (a b h : ℕ) (w : Bool) → h ≡ changed 8192 w → a ≤ b → b ≤ n → TakeOk n l a b h c m
-cross_takes ok a b h w e p q = let k = around h w e in record {
-  long = ok.long;
-  covers = ok.covers;
-  few = ok.few;
-  layer = ok.layer;
-  order = p;
-  top = q;
-  enough = λ r g g'. omega (arith, ok.low r (omega arith), k.0);
-  fits = λ r g g'. omega (arith, ok.high r (omega arith), k.1);
-}
-
 pub crossed_west : {n l f t h : ℕ} {c₀ c m₀ m : List ℕ} → t < f → h ≡ changed 8192 true → Taken n l t f h c₀ c m₀ m → Crossed n l f t c₀ c m₀ m
 crossed_west {n} {l} {f} {t} {h} {c₀} {c} {m₀} {m} p e T = rw (lt-ltb t f p) (rw e at T)
-
-pub crossed_east : {n l f t h : ℕ} {c₀ c m₀ m : List ℕ} → f ≤ t → h ≡ changed 8192 false → Taken n l f t h c₀ c m₀ m → Crossed n l f t c₀ c m₀ m
-crossed_east {n} {l} {f} {t} {h} {c₀} {c} {m₀} {m} p e T = rw (le-ltb t f p) (rw e at T)

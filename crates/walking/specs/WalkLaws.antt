@@ -8,31 +8,29 @@
 --   sweep_ready        its sweep has what it is asked
 --   sweep_told         and what it writes is what run and area answer
 --   part_back, counters_back   the length of an array whose part came back
-use Rattle.std.specs.Prelude.{◌≡◌, refl, Bool, List, ◌++◌, map, ℕ, ◌-◌, ◌*◌, ◌^◌, ◌<◌, ◌≤◌, ℤ, take, drop, replicate}
-use Rattle.std.proofs.Common.{sym, ◌∙◌, subst, true≢false, arith, length-append, length-drop, ext_get_or, length-take-le, get_or-take}
-use Rattle.std.proofs.Math.Path.{ap, ap₂}
+use Rattle.std.specs.Prelude.{◌≡◌, refl, Result, Ok, Err, Bool, List, ◌++◌, map, ℕ, ◌-◌, ◌*◌, ◌^◌, ◌<◌, ◌≤◌, ℤ, take, drop, replicate}
+use Rattle.std.proofs.Common.{sym, ◌∙◌, subst, arith, length-append, length-drop, ext_get_or, length-take-le, get_or-take}
+use Rattle.std.proofs.Math.Path.{ap}
 use Rattle.std.proofs.Math.Bool.{true, false}
 use Rattle.std.proofs.Math.Nat.{sub-zero}
 use Rattle.std.proofs.Math.ListN.{length}
 use Rattle.std.proofs.lemmas.List.{length-replicate, get_or-replicate}
 use borrow.Author.Tests.{le-leb, lt-leb}
 use Rattle.meaning.specs.Numbers.{limit, pick}
-use Rattle.meaning.specs.Answers.{Answer, answer, accepted, First, not_closed, too_little_room}
+use Rattle.meaning.specs.Answers.{accepted, First, not_closed, too_little_room}
 use Rattle.meaning.specs.Edges.{Edge, edges_of, Closed}
 use Rattle.meaning.specs.Expression.{Judged}
 use Rattle.meaning.specs.Records.{Record}
 use Rattle.meaning.specs.Calls.{call_rows}
-use Rattle.answers.specs.Said.{said}
+use Rattle.answers.specs.declared.Refusal.{Refusal}
+use Rattle.answers.specs.declared.Refusal.TheVariants.{TooLittleRoom}
+use Rattle.answers.specs.Told.{answer_of, verdict, told}
 use Rattle.basic_laws.specs.Sound.{lifted}
 use Rattle.laws.specs.Accepting.{Passed, refused}
 use Rattle.expression_laws.specs.Cover.{Table}
 use Rattle.call_laws.specs.Refusals.{call_stops, call_text}
-use Rattle.edges.specs.declared.Judged.TheVariants.{Fine}
 use Rattle.edges.specs.Answering.{list_rows}
 use Rattle.edges.specs.Refusals.{fine_list, open_answer, fine_answer}
-use Rattle.expression.specs.Verdicts.{answer_of as verdict_of}
-use Rattle.expression.specs.declared.Verdict.{Verdict}
-use Rattle.expression.specs.declared.Verdict.TheVariants.{Accepted, BadLength, TooDeep, NotInGrammar, HoldsOnNothing}
 use Rattle.axis.specs.Axes.{InOrder}
 use Rattle.crossings.specs.OnlyOne.{swept_fresh}
 use Rattle.sweep_laws.specs.Lines.{lines_to}
@@ -42,41 +40,25 @@ use Rattle.strip_laws.specs.Ordered.{EdgesOk, Ordered}
 use Rattle.strip_laws.specs.Ready.{ordered_of}
 use Rattle.strip_laws.proofs.Fresh.{closed_ranked}
 use Rattle.engine_laws.specs.Ready.{Ready, ready}
-use Rattle.engine_laws.specs.Joining.{passed_first, sound, empty, levels, run_joined, area_joined}
+use Rattle.engine_laws.specs.Joining.{sound, empty, levels, run_joined, area_joined}
 use Rattle.front.specs.Ranking.{RankOk, InRanks, BalancedAs}
 use Rattle.writing.specs.declared.Found.{Found}
 use Rattle.writing.specs.Writing.{written, fitting, Wrote, Even, WriteOk}
-use Rattle.walked.specs.declared.Walked.{Walked}
-use Rattle.walked.specs.Walks.{ended, answer_to, Walks}
-use Rattle.walked.specs.WalkedLaws.{ended_no, area_ended, stopped}
+use Rattle.walking.specs.Walks.{Walks}
+use Rattle.walking.specs.OneWalk.{stopped}
 use Rattle.walking.specs.Working.{Zeros, Fresh, WorkOk, SweepOk, Sweeps}
 
 -- ---- refusals
 
 module _ (ns : List ℤ) (text : List ℕ) (J : First (list_rows 7 limit ns) Passed (accepted 0)) where
   pub open_call : (Closed (edges_of ns) → ⊥) → First (call_rows ns text) Passed not_closed
-  open_call h = call_stops ns text not_closed (open_answer limit ns Fine J refl h) (refused not_closed 0 (λ z. omega arith))
+  open_call h = call_stops ns text not_closed (open_answer limit ns (Ok tt) J refl h) (refused not_closed 0 (λ z. omega arith))
 
-  pub text_call : Closed (edges_of ns) → (v : Verdict) → Judged text (verdict_of v) → First (call_rows ns text) Passed (verdict_of v)
-  text_call h v t = call_text ns text (verdict_of v) (fine_answer limit ns Fine J refl h) t
+  pub text_call : Closed (edges_of ns) → (v : Result (Unit {0}) Refusal) → Judged text (verdict v) → First (call_rows ns text) Passed (verdict v)
+  text_call h v t = call_text ns text (verdict v) (fine_answer limit ns (Ok tt) J refl h) t
 
-zero_value : (v : Verdict) → answer (verdict_of v).number 0 ≡ verdict_of v
-zero_value Accepted = refl
-zero_value BadLength = refl
-zero_value TooDeep = refl
-zero_value NotInGrammar = refl
-zero_value HoldsOnNothing = refl
-
-not_ten : (v : Verdict) → (verdict_of v).number ≡ 10 → ⊥
-not_ten Accepted e = omega arith
-not_ten BadLength e = omega arith
-not_ten TooDeep e = omega arith
-not_ten NotInGrammar e = omega arith
-not_ten HoldsOnNothing e = omega arith
-
--- the text's number is not 0
-pub text_stopped : (ns : List ℤ) (text : List ℕ) (out : List ℤ) (w : Walked) (v : Verdict) (n : ℕ) → n ≡ (verdict_of v).number → said w.answer ≡ answer n 0 → w.cells ≡ 0 → First (call_rows ns text) Passed (verdict_of v) → (n ≡ 0 → ⊥) → Walks ns text out out w
-text_stopped ns text out w v n k e z x h = stopped ns text out w (verdict_of v) (e ∙ ap (λ (i : ℕ). answer i 0) k ∙ zero_value v) z x (λ u. h (k ∙ u)) (not_ten v)
+  pub text_stopped : (out : List ℤ) → Closed (edges_of ns) → (r : Refusal) → Judged text (answer_of r) → Walks ns text out out (Err r)
+  text_stopped out h r t = stopped ns text out r (text_call h (Err r) t)
 
 -- ---- fresh arrays
 
@@ -111,7 +93,7 @@ module _ {n : ℕ} {c covers told marks cs loc : List ℕ} (F : Fresh n c covers
 pub rank_ready : {ns : List ℤ} {n : ℕ} {layers ys xs ends vx ws room c covers told marks cs loc : List ℕ} → WorkOk ns n layers ys xs ends vx ws room c covers told marks cs loc
     → RankOk ns layers ys xs ends vx ws room n c
 rank_ready {ns} {n} {layers} {ys} {xs} {ends} {vx} {ws} {room} {c} W = record {
-  sound = fine_list limit ns Fine W.judged refl;
+  sound = fine_list limit ns (Ok tt) W.judged refl;
   as_layers = W.as_layers;
   as_ys = W.as_ys;
   as_xs = W.as_xs;
@@ -134,12 +116,11 @@ pub record Call (ns : List ℤ) (text layers ys xs ends values : List ℕ) (n nx
   pub rows_few : n ≤ 8192
   pub table : Table text truth
 
--- the text's number is 0
 pub call_ready : {ns : List ℤ} {text : List ℕ} {n nx : ℕ} {layers₀ ys₀ xs₀ ends₀ vx₀ ws₀ room₀ c₀ covers told marks cs loc layers ys xs ends values c : List ℕ} {truth : List Bool}
     → WorkOk ns n layers₀ ys₀ xs₀ ends₀ vx₀ ws₀ room₀ c₀ covers told marks cs loc → BalancedAs ns layers ys xs ends values n nx c₀ c → length xs ≡ length xs₀ → length ends ≡ length ends₀
-    → (v : Verdict) → Judged text (verdict_of v) → (k : ℕ) → k ≡ (verdict_of v).number → k ≡ 0 → Table text truth → Call ns text layers ys xs ends values n nx truth
-call_ready {ns} {text} W B xs_long ends_long v t k e z T = record {
-  passed = passed_first ns text (verdict_of v) (text_call ns text W.judged B.closed v t) (sym e ∙ z);
+    → Judged text (accepted 0) → Table text truth → Call ns text layers ys xs ends values n nx truth
+call_ready {ns} {text} W B xs_long ends_long t T = record {
+  passed = text_call ns text W.judged B.closed (Ok tt) t;
   ranks = B.ranks;
   long_ends = omega (arith, W.as_ends, W.as_xs);
   rows_few = W.rows_few;
@@ -214,34 +195,22 @@ module _ {ns : List ℤ} {text layers ys xs ends values : List ℕ} {n nx : ℕ}
         levels = levels ns text X truth t O vx x-are hs lines;
       }
 
-    module _ {out out' : List ℤ} {f : Found} (W : Wrote vx (lines_to base ws layers ends truth (length vx) (length ws)) out out' f) (small : f.cells < 2 ^ 64)
-        (w : Walked) (told : said w.answer ≡ answer_to f) (cells : w.cells ≡ f.cells) where
-      whole : 8 * length hs ≤ length out → (said w.answer ≡ accepted (2 * length hs)) × (out' ≡ written vx hs out)
-      unfolding answer_to
-      whole h =
+    module _ {out out' : List ℤ} {f : Found} (W : Wrote vx (lines_to base ws layers ends truth (length vx) (length ws)) out out' f) (small : f.cells < 2 ^ 64) where
+      wrote_all : 8 * length hs ≤ length out → (told f.records ≡ accepted (2 * length hs)) × (out' ≡ written vx hs out)
+      wrote_all h =
           let b : fitting hs out ≡ true = le-leb (8 * length hs) (length out) h in
-          (told ∙ ap₂ (λ (p : Bool) (k : ℕ). pick p (accepted k) (too_little_room k)) (W.fits ∙ b) W.records, W.buffer ∙ ap (λ (p : Bool). pick p (written vx hs out) out) b)
+          (ap told (W.records ∙ ap (λ (p : Bool). pick p (Ok (2 * length hs)) (Err (TooLittleRoom (2 * length hs)))) b), W.buffer ∙ ap (λ (p : Bool). pick p (written vx hs out) out) b)
 
-      short : length out < 8 * length hs → (said w.answer ≡ too_little_room (2 * length hs)) × (out' ≡ out)
-      unfolding answer_to
+      short : length out < 8 * length hs → (told f.records ≡ too_little_room (2 * length hs)) × (out' ≡ out)
       short h =
           let b : fitting hs out ≡ false = lt-leb (8 * length hs) (length out) h in
-          (told ∙ ap₂ (λ (p : Bool) (k : ℕ). pick p (accepted k) (too_little_room k)) (W.fits ∙ b) W.records, W.buffer ∙ ap (λ (p : Bool). pick p (written vx hs out) out) b)
+          (ap told (W.records ∙ ap (λ (p : Bool). pick p (Ok (2 * length hs)) (Err (TooLittleRoom (2 * length hs)))) b), W.buffer ∙ ap (λ (p : Bool). pick p (written vx hs out) out) b)
 
-      to_end : (b : Bool) → f.fits ≡ b → ended (answer_to f).number ≡ true
-      unfolding answer_to ended
-      to_end true e = rw e
-      to_end false e = rw e
-
-      at_end : ended w.answer.number ≡ true
-      at_end = ap (λ (a : Answer). ended a.number) told ∙ to_end f.fits refl
-
-      walked : Walks ns text out out' w
+      walked : Walks ns text out out' (Ok f)
       unfolding written
       walked = record {
-        run = run_joined ns text X truth t O vx x-are hs lines out out' (said w.answer) whole short;
-        area = rw (area_ended (said w.answer) w.cells at_end, cells) (area_joined ns text X truth t O vx x-are hs lines f.cells small W.cells.owes);
-        none = λ h g. absurd (true≢false (sym at_end ∙ ended_no w.answer.number h g));
+        run = run_joined ns text X truth t O vx x-are hs lines out out' (told f.records) wrote_all short;
+        area = area_joined ns text X truth t O vx x-are hs lines f.cells small W.cells.owes;
       }
 
 -- what is lent of the arrays: the first nx counters and x, and as many words as there are edges
@@ -255,8 +224,8 @@ module _ {ns : List ℤ} {text layers ys xs ends values : List ℕ} {n nx : ℕ}
     ready = λ base vs I. write_ready K (take (nx - 0) values) (ap (λ (k : ℕ). take k values) (sub-zero nx)) base vs I F (take (nx - 0) cs) (ap (λ (k : ℕ). take k cs) (sub-zero nx));
   }
 
-  pub sweep_told : {out out' : List ℤ} {f : Found} → Sweeps ys layers ends truth (take (nx - 0) values) out out' f → f.cells < 2 ^ 64 → (w : Walked) → said w.answer ≡ answer_to f → w.cells ≡ f.cells → Walks ns text out out' w
-  sweep_told S small w told cells = walked K (take (nx - 0) values) (ap (λ (k : ℕ). take k values) (sub-zero nx)) S.base S.ws S.order S.wrote small w told cells
+  pub sweep_told : {out out' : List ℤ} {f : Found} → Sweeps ys layers ends truth (take (nx - 0) values) out out' f → f.cells < 2 ^ 64 → Walks ns text out out' (Ok f)
+  sweep_told S small = walked K (take (nx - 0) values) (ap (λ (k : ℕ). take k values) (sub-zero nx)) S.base S.ws S.order S.wrote small
 
 -- the length of an array whose part came back
 pub part_back : {A : Type 0} (a b : List A) (m : ℕ) → m ≤ length b → length a ≡ length (take (m - 0) b) → length (a ++ drop (m - 0) b) ≡ length b

@@ -1,37 +1,68 @@
 // A walk over an edge list to which refusals 1 to 4 do not apply: the records into the lent buffer, and the inside cells. Every working array is lent.
 #![tactic(auto)]
 
-ghost use Rattle.walked.specs.Walks.{Walks};
+ghost use Rattle.walking.specs.Walks.{Walks};
 ghost use Rattle.walking.specs.Working.{SweepOk, Sweeps, WorkOk};
 
-use front::Ranked;
-use walked::Walked;
+use answers::Refusal;
+use crossings::Edges;
+use front::Columns;
+use strips::Strips;
+use sweep::Sweep;
 use writing::Found;
 
 // The sweep over edges with ranked x: in order of y, and written. What the working arrays hold at the end is of no use.
-fn sweep(
+// It has its arrays one by one, and not as `Arrays`: the borrow checker has no rule for a `Sweep` made of references that were taken out of that struct.
+fn sweep<'a>(
     out: &mut [i32],
     loc: &mut [u64],
     cs: &mut [u32],
-    ws: &mut [u64],
+    ws: &'a mut [u64],
     room: &mut [u64],
-    layers: &[u8],
+    layers: &'a [u8],
     ys: &[u32],
-    ends: &[u16],
-    vx: &[u32],
-    truth: &[bool],
-    c: &mut [u16],
-    covers: &mut [u8],
+    ends: &'a [u16],
+    vx: &'a [u32],
+    truth: &'a [bool],
+    strips: &mut Strips<'_>,
     told: &mut [u8],
     marks: &mut [u16],
 ) -> Found
-    requires { SweepOk ys.now layers.now ends.now truth.now vx.now ws.old room.old loc.old cs.old c.old covers.old told.old marks.old }
+    requires { SweepOk ys.now layers.now ends.now truth.now vx.now ws.old room.old loc.old cs.old strips.old.counts.now strips.old.covers.now told.old marks.old }
     ensures { Sweeps ys.now layers.now ends.now truth.now vx.now out.old out.new result }
 {
     let base = axis::in_order(ys, ws, room);
-    writing::write(
-        out, loc, cs, ws, base, layers, ends, vx, truth, c, covers, told, marks,
-    )
+    let edges = Edges {
+        words: ws,
+        layers,
+        ends,
+    };
+    let given = Sweep {
+        edges,
+        base,
+        vx,
+        truth,
+    };
+    writing::write(out, loc, cs, given, strips, told, marks)
+}
+
+// The working arrays of a walk: the columns of the edges in layers, ys, xs and ends, the distinct x in vx, the words of the edges and room to sort them;
+// then the strips' counts and covers, what was told of them and their marks; the counters of the verticals, and the words of the horizontals.
+#[derive(Drop)]
+pub struct Arrays<'a> {
+    pub layers: &'a mut [u8],
+    pub ys: &'a mut [u32],
+    pub xs: &'a mut [u32],
+    pub ends: &'a mut [u16],
+    pub vx: &'a mut [u32],
+    pub ws: &'a mut [u64],
+    pub room: &'a mut [u64],
+    pub c: &'a mut [u16],
+    pub covers: &'a mut [u8],
+    pub told: &'a mut [u8],
+    pub marks: &'a mut [u16],
+    pub cs: &'a mut [u32],
+    pub loc: &'a mut [u64],
 }
 
 // The walk, with n strips kept; refusals 5 to 10 in their order. What the working arrays hold at the end is of no use.
@@ -40,34 +71,45 @@ pub fn work(
     text: &[u8],
     out: &mut [i32],
     n: usize,
-    layers: &mut [u8],
-    ys: &mut [u32],
-    xs: &mut [u32],
-    ends: &mut [u16],
-    vx: &mut [u32],
-    ws: &mut [u64],
-    room: &mut [u64],
-    c: &mut [u16],
-    covers: &mut [u8],
-    told: &mut [u8],
-    marks: &mut [u16],
-    cs: &mut [u32],
-    loc: &mut [u64],
-) -> Walked
-    requires { WorkOk edges.now n layers.old ys.old xs.old ends.old vx.old ws.old room.old c.old covers.old told.old marks.old cs.old loc.old }
+    arrays: Arrays<'_>,
+) -> Result<Found, Refusal>
+    requires { WorkOk edges.now n arrays.layers.now arrays.ys.now arrays.xs.now arrays.ends.now arrays.vx.now arrays.ws.now arrays.room.now arrays.c.now arrays.covers.now arrays.told.now arrays.marks.now arrays.cs.now arrays.loc.now }
     ensures { Walks edges.now text.now out.old out.new result }
 {
-    let ranked = front::rank(edges, layers, ys, xs, ends, vx, ws, room, n, c);
-    let Ranked::Balanced(nx) = ranked else {
-        return walked::refusal(5, 0);
+    let Arrays {
+        layers,
+        ys,
+        xs,
+        ends,
+        vx,
+        ws,
+        room,
+        c,
+        covers,
+        told,
+        marks,
+        cs,
+        loc,
+    } = arrays;
+    let mut columns = Columns {
+        layers,
+        ys,
+        xs,
+        ends,
+        vx,
     };
-    let verdict = expression::judge(text);
-    let number = expression::number(verdict);
-    if number != 0 {
-        return walked::refusal(number, 0);
-    }
+    let nx = front::rank(edges, &mut columns, ws, room, n, c)?;
+    expression::judge(text)?;
     let truth = expression::table(text);
+    let Columns {
+        layers,
+        ys,
+        xs: _,
+        ends,
+        vx,
+    } = columns;
     let m = layers.len();
+    let mut strips = Strips { counts: c, covers };
     let found = sweep(
         out,
         loc,
@@ -79,10 +121,9 @@ pub fn work(
         ends,
         &vx[0..nx],
         &truth,
-        c,
-        covers,
+        &mut strips,
         told,
         marks,
     );
-    walked::tell(found)
+    Ok(found)
 }

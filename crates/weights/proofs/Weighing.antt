@@ -1,18 +1,12 @@
 -- One record's weight. Assumes nothing.
-use Rattle.std.proofs.Common.{◌≡◌, ℕ, ◌+◌, ◌-◌, ◌*◌, ◌%◌, ◌^◌, ◌≤◌, Bool, true, false, not, [], ◌∷◌, mul-le-mul, arith}
+use Rattle.std.proofs.Common.{◌≡◌, ℕ, ◌+◌, ◌-◌, ◌*◌, ◌%◌, ◌^◌, ◌≤◌, Bool, true, false, not, [], ◌∷◌, arith}
 use Rattle.meaning.specs.Cells.{turn}
 use Rattle.meaning.specs.Records.{run}
 use Rattle.grid_laws.specs.Plane.{record_at}
 use Rattle.basic_laws.specs.Sums.{sum_of}
 use Rattle.grid_laws.specs.Wrap.{owes_add, owes_sub}
 use Rattle.grid_laws.specs.AreaLaws.{times_none}
-use Rattle.weights.specs.Weights.{Weighed, WeightOk}
-
-pub size_less : (y a b : ℕ) → WeightOk y a b → y * (b - a) ≤ 2 ^ 62
-size_less y a b ok = omega (arith, mul-le-mul ok.place bound)
-  where
-    bound : b - a ≤ 2147483648
-    bound = omega (arith, ok.top)
+use Rattle.weights.specs.Weights.{Weighed}
 
 -- a stretch that came inside goes west
 pub weigh_west : (sum y a b w r : ℕ) (inside : Bool) → inside ≡ true → a ≤ b → w ≡ y * (b - a) → (r + w) % 2 ^ 64 ≡ sum → Weighed sum (record_at 0 y (run a b (turn (not inside) inside)) ∷ []) r

@@ -12,18 +12,18 @@ fn size(y: u32, a: u32, b: u32) -> u64
     requires { WeightOk y a b }
     ensures { result ≡ y * (b - a) }
 {
-    let length = b - a;
-    y as u64 * length as u64
+    u64::from(y) * u64::from(b - a)
 }
 
-// The sum with the stretch from a to b at y: a stretch that came inside goes west, so its weight is negative. The sum wraps on purpose.
+// The sum with the stretch from a to b at y: a stretch that came inside goes west, so its weight is negative: the flag is the stretch's own. The sum wraps on purpose.
 pub fn weighed(sum: u64, y: u32, a: u32, b: u32, inside: bool) -> u64
     requires { WeightOk y a b }
     ensures { Weighed sum (record_at 0 y (run a b (turn (not inside) inside)) ∷ []) result }
 {
     let w = size(y, a, b);
     if inside {
-        return std::num::wrapping_sub_u64(sum, w);
+        sum.wrapping_sub(w)
+    } else {
+        sum.wrapping_add(w)
     }
-    std::num::wrapping_add_u64(sum, w)
 }

@@ -1,9 +1,9 @@
-// The only place where signed numbers meet machine signs: tests of i32 numbers, and the way to natural numbers and back.
+// A test of i32 numbers, and their way to natural numbers and back.
 #![tactic(auto)]
 
 ghost use Rattle.std.specs.Prelude.{◌≡◌};
 ghost use Rattle.basic_laws.specs.Signed.{key_of, unkey_of};
-ghost use Rattle.meaning.specs.Numbers.{eq_z, limit, in_range};
+ghost use Rattle.meaning.specs.Numbers.{limit, in_range};
 
 use scanline::Scanline;
 
@@ -20,28 +20,19 @@ const LEAST: i32 = -GREATEST;
 pub fn key(z: i32) -> u32
     ensures { result ≡ key_of z }
 {
-    let w = z as i64;
-    (w + HALF) as u32
+    (i64::from(z) + HALF) as u32
 }
 
 // The number moved down by 2^31: the way back from `key`.
 pub fn unkey(n: u32) -> i32
     ensures { result ≡ unkey_of n }
 {
-    let w = n as i64;
-    (w - HALF) as i32
+    (i64::from(n) - HALF) as i32
 }
 
 // Whether z is a coordinate.
 pub fn in_range(z: i32) -> bool
     ensures { result ≡ in_range limit z }
 {
-    LEAST <= z && z <= GREATEST
-}
-
-// Whether two numbers are equal.
-pub fn same(a: i32, b: i32) -> bool
-    ensures { result ≡ eq_z a b }
-{
-    a == b
+    (LEAST..=GREATEST).contains(&z)
 }

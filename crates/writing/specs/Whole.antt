@@ -6,11 +6,13 @@
 --   again_ready     where they do not
 --   wrote_short, wrote_fits     the answer
 --   one_wrote       ANSWERS AND BUFFERS THAT MEET THE CONTRACT OF `write` ARE EQUAL
-use Rattle.std.specs.Prelude.{◌≡◌, refl, Bool, true, false, List, [], ◌++◌, map, ℕ, ◌*◌, ◌^◌, ◌<◌, ◌≤◌, ℤ, length, take, drop}
+use Rattle.std.specs.Prelude.{◌≡◌, refl, Result, Ok, Err, Bool, true, false, List, [], ◌++◌, map, ℕ, ◌*◌, ◌^◌, ◌<◌, ◌≤◌, ℤ, length, take, drop}
 use Rattle.std.proofs.Common.{sym, ap, ap₂, ◌∙◌, append-nil, arith, length-drop, le-leb}
 use Rattle.std.proofs.lemmas.List.{length-map}
 use Rattle.std.proofs.lemmas.Bool.{lt-leb}
 use Rattle.meaning.specs.Records.{Record}
+use Rattle.answers.specs.declared.Refusal.{Refusal}
+use Rattle.answers.specs.declared.Refusal.TheVariants.{TooLittleRoom}
 use Rattle.basic_laws.specs.Lists.{All}
 use Rattle.horizontal.specs.Words.{on_level, level_of, word_of}
 use Rattle.weights.specs.WeightLaws.{weigh_one}
@@ -95,25 +97,23 @@ module _ {base : ℕ} {ws layers ends : List ℕ} {truth : List Bool} {vx loc₀
 
   -- ---- the answer
 
-  pub wrote_short : (out : List ℤ) → length out < 8 * r.all → {s : Found} → s.records ≡ 2 * r.all → s.fits ≡ false → s.cells ≡ r.sum → Wrote vx hs out out s
-  wrote_short out h {s} a b q =
+  pub wrote_short : (out : List ℤ) → length out < 8 * r.all → {s : Found} → s.records ≡ Err (TooLittleRoom (2 * r.all)) → s.cells ≡ r.sum → Wrote vx hs out out s
+  wrote_short out h a q =
       let f : fitting hs out ≡ false = lt-leb (8 * length hs) (length out) (omega (arith, M.all)) in
-      record { records = omega (arith, a, M.all); fits = b ∙ sym f; buffer = rw f refl; cells = rw q M.weighed }
+      record { records = rw f (a ∙ ap (λ (n : ℕ). Err (TooLittleRoom (2 * n))) M.all); buffer = rw f refl; cells = rw q M.weighed }
 
-  pub wrote_fits : (out out' : List ℤ) → 8 * r.all ≤ length out → out' ≡ written vx hs out → {s : Found} → s.records ≡ 2 * r.all → s.fits ≡ true → s.cells ≡ r.sum → Wrote vx hs out out' s
-  wrote_fits out out' h e {s} a b q =
+  pub wrote_fits : (out out' : List ℤ) → 8 * r.all ≤ length out → out' ≡ written vx hs out → {s : Found} → s.records ≡ Ok (2 * r.all) → s.cells ≡ r.sum → Wrote vx hs out out' s
+  wrote_fits out out' h e a q =
       let f : fitting hs out ≡ true = le-leb (8 * length hs) (length out) (omega (arith, M.all)) in
-      record { records = omega (arith, a, M.all); fits = b ∙ sym f; buffer = rw f e; cells = rw q M.weighed }
+      record { records = rw f (a ∙ ap (λ (n : ℕ). Ok (2 * n)) M.all); buffer = rw f e; cells = rw q M.weighed }
 
-abbrev found_of : ℕ → Bool → ℕ → Found
-found_of a b k = record { records = a; fits = b; cells = k }
+found_of : Result ℕ Refusal → ℕ → Found
+found_of a k = record { records = a; cells = k }
 
-same_found : {r s : Found} → r.records ≡ s.records → r.fits ≡ s.fits → r.cells ≡ s.cells → r ≡ s
-same_found {r} {s} a b k =
-    let p : found_of r.records r.fits r.cells ≡ found_of s.records s.fits r.cells = ap₂ (λ x y. found_of x y r.cells) a b in
-    let q : found_of s.records s.fits r.cells ≡ found_of s.records s.fits s.cells = ap (found_of s.records s.fits) k in
-    p ∙ q
+same_found : {r s : Found} → r.records ≡ s.records → r.cells ≡ s.cells → r ≡ s
+unfolding found_of
+same_found a k = ap₂ found_of a k
 
 pub one_wrote : {vx : List ℕ} {hs : List (Record ℕ)} {out o₁ o₂ : List ℤ} {r s : Found} → r.cells < 2 ^ 64 → s.cells < 2 ^ 64 → Wrote vx hs out o₁ r → Wrote vx hs out o₂ s → (o₁ ≡ o₂) × (r ≡ s)
-one_wrote {vx} {hs} {out} {o₁} {o₂} {r} {s} h g p q =
-    (p.buffer ∙ sym q.buffer, same_found (p.records ∙ sym q.records) (p.fits ∙ sym q.fits) (weigh_one 0 r.cells s.cells (map (on_level vx) hs) h g p.cells q.cells))
+one_wrote {vx} {hs} {r = r} {s = s} h g p q =
+    (p.buffer ∙ sym q.buffer, same_found (p.records ∙ sym q.records) (weigh_one 0 r.cells s.cells (map (on_level vx) hs) h g p.cells q.cells))

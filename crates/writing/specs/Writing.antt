@@ -2,14 +2,15 @@
 --
 --   written vx hs out           the buffer: the records' numbers, horizontals first, and the rest as it was
 --   fitting hs out              "record room under four numbers a record" is not so: there are as many verticals as horizontals
---   Wrote vx hs out out' r      the answer and the buffer for these horizontals, and the sum of their weights
+--   Wrote vx hs out out' r      the answer and the buffer for these horizontals, how many records there are, and the sum of their weights
 --   Even n ws layers ends       after all edges the rows are as before the first: the list is closed
 --   WriteOk                     what the writing is asked: a sweep at its start, counters at zero, and the horizontals of some set of cells
 --   MeasureOk, Measures         before and after the horizontals are counted
 --   AgainOk                     what writing all parts is asked
-use Rattle.std.specs.Prelude.{◌≡◌, Bool, List, ◌++◌, map, ℕ, ◌*◌, ◌<◌, ◌≤◌, leb, ℤ, length, get_or, take, drop}
+use Rattle.std.specs.Prelude.{◌≡◌, Ok, Err, Bool, List, ◌++◌, map, ℕ, ◌*◌, ◌<◌, ◌≤◌, leb, ℤ, length, get_or, take, drop}
 use Rattle.meaning.specs.Numbers.{pick}
 use Rattle.meaning.specs.Records.{Record}
+use Rattle.answers.specs.declared.Refusal.TheVariants.{TooLittleRoom}
 use Rattle.bucket_laws.specs.Buckets.{Counted}
 use Rattle.records.specs.Put.{numbers}
 use Rattle.crossings.specs.Swept.{Swept, edges_to}
@@ -31,8 +32,7 @@ abbrev pub fitting : List (Record ℕ) → List ℤ → Bool
 fitting hs out = leb (8 * length hs) (length out)
 
 pub record Wrote (vx : List ℕ) (hs : List (Record ℕ)) (out out' : List ℤ) (r : Found) : Type 0 where
-  pub records : r.records ≡ 2 * length hs
-  pub fits : r.fits ≡ fitting hs out
+  pub records : r.records ≡ pick (fitting hs out) (Ok (2 * length hs)) (Err (TooLittleRoom (2 * length hs)))
   pub buffer : out' ≡ pick (fitting hs out) (written vx hs out) out
   pub cells : Weighed 0 (map (on_level vx) hs) r.cells
 

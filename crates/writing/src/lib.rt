@@ -1,15 +1,18 @@
 // The result of a sweep into the lent buffer, or refused with the buffer as it was; and its area.
 #![tactic(auto)]
 
-ghost use Rattle.std.specs.Prelude.{◌≡◌, ◌+◌, ◌*◌, ◌≤◌, length};
+ghost use Rattle.std.specs.Prelude.{◌≡◌, length};
 ghost use Rattle.sweep_laws.specs.Lines.{lines_to};
 ghost use Rattle.writing.specs.Writing.{MeasureOk, Measures, AgainOk, written, WriteOk, Wrote};
 
-// How many records there are, whether the buffer has room for them, and the inside cells.
+use answers::Refusal;
+use strips::Strips;
+use sweep::Sweep;
+
+// How many records were written, or that there was too little room and how many there are; and the inside cells.
 #[derive(Clone, Copy)]
 pub struct Found {
-    pub records: u64,
-    pub fits: bool,
+    pub records: Result<u64, Refusal>,
     pub cells: u64,
 }
 
@@ -25,28 +28,22 @@ pub struct Measured {
 fn measure(
     loc: &mut [u64],
     cs: &mut [u32],
-    ws: &[u64],
-    base: u32,
-    layers: &[u8],
-    ends: &[u16],
-    vx: &[u32],
-    truth: &[bool],
-    c: &mut [u16],
-    covers: &mut [u8],
+    given: Sweep<'_>,
+    strips: &mut Strips<'_>,
     told: &mut [u8],
     marks: &mut [u16],
 ) -> Measured
-    requires { MeasureOk base ws.now layers.now ends.now truth.now vx.now loc.old cs.old c.old covers.old told.old marks.old }
-    ensures { Measures base ws.now layers.now ends.now truth.now vx.now loc.new cs.new c.new covers.new told.new marks.new result }
+    requires { MeasureOk given.base given.edges.words.now given.edges.layers.now given.edges.ends.now given.truth.now given.vx.now loc.old cs.old strips.old.counts.now strips.old.covers.now told.old marks.old }
+    ensures measured { Measures given.entry.base given.entry.edges.words.now given.entry.edges.layers.now given.entry.edges.ends.now given.entry.truth.now given.entry.vx.now loc.new cs.new strips.new.counts.now strips.new.covers.now told.new marks.new result }
+    ensures long { (length strips.new.counts.now ≡ length strips.old.counts.now) × (length strips.new.covers.now ≡ length strips.old.covers.now) }
+    ensures lent { (strips.new.counts.ghost_name ≡ strips.old.counts.ghost_name) × (strips.new.covers.ghost_name ≡ strips.old.covers.ghost_name) }
 {
     let mut g = 0;
     let mut all = 0;
     let mut last = 0;
     let mut sum = 0;
-    while g < ws.len() {
-        let f = sweep::fill(
-            loc, g, sum, ws, base, layers, ends, vx, truth, c, covers, told, marks,
-        );
+    while g < given.edges.words.len() {
+        let f = sweep::fill(loc, g, sum, given, strips, told, marks);
         last = f.count;
         verticals::count(&loc[0..last], cs);
         all += last;
@@ -56,47 +53,30 @@ fn measure(
     Measured { all, last, sum }
 }
 
-// Where the horizontals were too many for the working array: the sweep once more, each part written as it is found.
+// Where the horizontals were too many for the working array: the sweep once more, each part written as it is found. Its parameters are those of `write`, and h.
 fn again(
     h: usize,
     out: &mut [i32],
     loc: &mut [u64],
     cs: &mut [u32],
-    ws: &[u64],
-    base: u32,
-    layers: &[u8],
-    ends: &[u16],
-    vx: &[u32],
-    truth: &[bool],
-    c: &mut [u16],
-    covers: &mut [u8],
+    given: Sweep<'_>,
+    strips: &mut Strips<'_>,
     told: &mut [u8],
     marks: &mut [u16],
 )
-    requires { AgainOk base ws.now layers.now ends.now truth.now vx.now h out.old loc.old cs.old c.old covers.old told.old marks.old }
-    ensures { out.new ≡ written vx.now (lines_to base ws.now layers.now ends.now truth.now (length vx.now) (length ws.now)) out.old }
+    requires { AgainOk given.base given.edges.words.now given.edges.layers.now given.edges.ends.now given.truth.now given.vx.now h out.old loc.old cs.old strips.old.counts.now strips.old.covers.now told.old marks.old }
+    ensures written { out.new ≡ written given.entry.vx.now (lines_to given.entry.base given.entry.edges.words.now given.entry.edges.layers.now given.entry.edges.ends.now given.entry.truth.now (length given.entry.vx.now) (length given.entry.edges.words.now)) out.old }
+    ensures long { (length strips.new.counts.now ≡ length strips.old.counts.now) × (length strips.new.covers.now ≡ length strips.old.covers.now) }
+    ensures lent { (strips.new.counts.ghost_name ≡ strips.old.counts.ghost_name) × (strips.new.covers.ghost_name ≡ strips.old.covers.ghost_name) }
 {
     let mut g = 0;
     let mut n = 0;
-    while g < ws.len() {
-        let f = sweep::fill(
-            loc, g, 0, ws, base, layers, ends, vx, truth, c, covers, told, marks,
-        );
+    while g < given.edges.words.len() {
+        let f = sweep::fill(loc, g, 0, given, strips, told, marks);
         let count = f.count;
-        parts::put(&loc[0..count], n, h, vx, cs, out);
+        parts::put(&loc[0..count], n, h, given.vx, cs, out);
         n += count;
         g = f.next;
-    }
-}
-
-fn counted(h: usize, fits: bool, cells: u64) -> Found
-    requires { h ≤ 33554432 }
-    ensures { (result.records ≡ 2 * h) × (result.fits ≡ fits) × (result.cells ≡ cells) }
-{
-    Found {
-        records: 2 * h as u64,
-        fits,
-        cells,
     }
 }
 
@@ -107,34 +87,34 @@ pub fn write(
     out: &mut [i32],
     loc: &mut [u64],
     cs: &mut [u32],
-    ws: &[u64],
-    base: u32,
-    layers: &[u8],
-    ends: &[u16],
-    vx: &[u32],
-    truth: &[bool],
-    c: &mut [u16],
-    covers: &mut [u8],
+    given: Sweep<'_>,
+    strips: &mut Strips<'_>,
     told: &mut [u8],
     marks: &mut [u16],
 ) -> Found
-    requires { WriteOk base ws.now layers.now ends.now truth.now vx.now loc.old cs.old c.old covers.old told.old marks.old }
-    ensures { Wrote vx.now (lines_to base ws.now layers.now ends.now truth.now (length vx.now) (length ws.now)) out.old out.new result }
+    requires { WriteOk given.base given.edges.words.now given.edges.layers.now given.edges.ends.now given.truth.now given.vx.now loc.old cs.old strips.old.counts.now strips.old.covers.now told.old marks.old }
+    ensures wrote { Wrote given.entry.vx.now (lines_to given.entry.base given.entry.edges.words.now given.entry.edges.layers.now given.entry.edges.ends.now given.entry.truth.now (length given.entry.vx.now) (length given.entry.edges.words.now)) out.old out.new result }
+    ensures long { (length strips.new.counts.now ≡ length strips.old.counts.now) × (length strips.new.covers.now ≡ length strips.old.covers.now) }
+    ensures lent { (strips.new.counts.ghost_name ≡ strips.old.counts.ghost_name) × (strips.new.covers.ghost_name ≡ strips.old.covers.ghost_name) }
 {
-    let m = measure(
-        loc, cs, ws, base, layers, ends, vx, truth, c, covers, told, marks,
-    );
+    let m = measure(loc, cs, given, strips, told, marks);
     let h = m.all;
+    let records = 2 * h as u64;
+    let cells = m.sum;
     if out.len() < 8 * h {
-        return counted(h, false, m.sum);
+        return Found {
+            records: Err(Refusal::TooLittleRoom(records)),
+            cells,
+        };
     }
-    verticals::starts(cs);
+    tallies::starts(cs);
     if m.last == h {
-        parts::put(&loc[0..h], 0, h, vx, cs, out);
-        return counted(h, true, m.sum);
+        parts::put(&loc[0..h], 0, h, given.vx, cs, out);
+    } else {
+        again(h, out, loc, cs, given, strips, told, marks);
     }
-    again(
-        h, out, loc, cs, ws, base, layers, ends, vx, truth, c, covers, told, marks,
-    );
-    counted(h, true, m.sum)
+    Found {
+        records: Ok(records),
+        cells,
+    }
 }

@@ -1,11 +1,5 @@
--- `crossings::each` meets its contract. The loop: the rows have the first e edges. Assumes nothing.
-use Prim.Native.Nat.{◌-◌}
-use lib.ListN.{length}
-use Rattle.crossings.proofs.AdvanceLaws.{Advancing}
+-- `crossings::each` meets its contract. The loop: the step was done with the edges of the place below e. Assumes nothing.
 use Rattle.crossings.proofs.each.Given as goal
 
 abbrev pub invariant-loop-e : goal.invariant-loop-e
-invariant-loop-e l = Advancing l.n l.ws l.layers l.ends l.g l.e l.lo l.hi l.initial.c l.c l.initial.covers l.covers
-
-abbrev pub decreases-loop-e : goal.decreases-loop-e
-decreases-loop-e l = length l.ws - l.e
+invariant-loop-e g l = g.S.Step.holds l.n l.edges.words.now l.edges.layers.now l.edges.ends.now l.g l.initial.on l.e l.lo l.hi l.on

@@ -1,5 +1,5 @@
 -- `crossings::many` meets its contract. Assumes nothing.
-use Rattle.crossings.proofs.PlaceLaws.{many_no, many_told}
+use Rattle.crossings.specs.PlaceLaws.{many_no, many_told}
 use Rattle.crossings.proofs.many.Goals as goal
 
 pub returns-then-ws-g-lt-MANY : goal.returns-then-ws-g-lt-MANY

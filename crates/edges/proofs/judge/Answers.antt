@@ -1,7 +1,8 @@
 -- `edges::judge` meets its contract: the records before k are good, and each return gives the row that then applies. Assumes nothing.
-use mathlib.Core.Path.{refl, sym, ◌∙◌}
+use mathlib.Core.Path.{refl, sym, ap, ◌∙◌}
 use native.Mathlib.Omega.{arith}
 use Rattle.meaning.specs.Numbers.{limit}
+use Rattle.meaning.specs.Edges.{sound_edge, flat}
 use Rattle.edges.specs.Refusals.{fine_start, fine_more, odd_answer, many_answer, range_answer, equal_answer, none_answer}
 use borrow.Author.Rules.{rules}
 use Rattle.edges.proofs.judge.Goals as goal
@@ -15,20 +16,20 @@ returns-then-n-gt-MOST c = many_answer 7 limit c.args.edges.now c.if-edges-ne0.f
 pub loop-k-init : goal.loop-k-init
 loop-k-init c = (refl, fine_start 7 limit c.args.edges.now c.if-edges-ne0.false (search rules))
 
-pub returns-then-not-sound : goal.returns-then-not-sound
-returns-then-not-sound c =
+pub returns-then-not-is_sound : goal.returns-then-not-is_sound
+returns-then-not-is_sound c =
     let h = c.loop-k in
-    range_answer 7 limit c.args.edges.now h.k h.invariant.1 (omega arith) (sym c.sound.ensures ∙ c.if-not-sound.true)
+    range_answer 7 limit c.args.edges.now h.k h.invariant.1 (omega arith) (ap (sound_edge 7 limit) (sym c.at-record.ensures) ∙ sym c.is_sound.ensures ∙ c.if-not-is_sound.true)
 
-pub returns-then-equal_ends : goal.returns-then-equal_ends
-returns-then-equal_ends c =
+pub returns-then-is_flat : goal.returns-then-is_flat
+returns-then-is_flat c =
     let h = c.loop-k in
-    equal_answer 7 limit c.args.edges.now h.k h.invariant.1 (omega arith) (sym c.sound.ensures ∙ c.if-not-sound.false) (sym c.equal_ends.ensures ∙ c.if-equal_ends.true)
+    equal_answer 7 limit c.args.edges.now h.k h.invariant.1 (omega arith) (ap (sound_edge 7 limit) (sym c.at-record.ensures) ∙ sym c.is_sound.ensures ∙ c.if-not-is_sound.false) (ap flat (sym c.at-record.ensures) ∙ sym c.is_flat.ensures ∙ c.if-is_flat.true)
 
 pub loop-k-preserved : goal.loop-k-preserved
 loop-k-preserved c =
     let h = c.loop-k in
-    (h.invariant.0, fine_more 7 limit c.args.edges.now h.k h.invariant.1 (omega arith) (sym c.sound.ensures ∙ c.if-not-sound.false) (sym c.equal_ends.ensures ∙ c.if-equal_ends.false))
+    (h.invariant.0, fine_more 7 limit c.args.edges.now h.k h.invariant.1 (omega arith) (ap (sound_edge 7 limit) (sym c.at-record.ensures) ∙ sym c.is_sound.ensures ∙ c.if-not-is_sound.false) (ap flat (sym c.at-record.ensures) ∙ sym c.is_flat.ensures ∙ c.if-is_flat.false))
 
 pub returns : goal.returns
 returns c =

@@ -1,6 +1,6 @@
 -- `edges::judge` meets its contract: the records before k are good, and each return gives the row that then applies. Assumes nothing.
 use mathlib.Core.Path.{◌≡◌}
-use Prim.Native.Nat.{◌-◌, ◌/◌}
+use Prim.Native.Nat.{◌/◌}
 use lib.ListN.{length}
 use Rattle.meaning.specs.Numbers.{limit}
 use Rattle.edges.specs.Refusals.{FineTo}
@@ -8,6 +8,3 @@ use Rattle.edges.proofs.judge.Given as goal
 
 abbrev pub invariant-loop-k : goal.invariant-loop-k
 invariant-loop-k l = (l.n ≡ length l.edges / 4) × FineTo 7 limit l.edges l.k
-
-abbrev pub decreases-loop-k : goal.decreases-loop-k
-decreases-loop-k l = l.n - l.k

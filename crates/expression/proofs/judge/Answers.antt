@@ -17,7 +17,7 @@ pub returns-in_default : goal.returns-in_default
 returns-in_default c = says_outside _ c.if-text-eq0.false c.if-text-gt-LONGEST.false (c.too_deep.ensures.1 c.if-too_deep.false) (of_refused _ _ c.whole-r.ensures c.in_default.is)
 
 pub returns-then-unbounded : goal.returns-then-unbounded
-returns-then-unbounded c = says_unbounded _ c.if-text-eq0.false c.if-text-gt-LONGEST.false (c.too_deep.ensures.1 c.if-too_deep.false) (at_nothing _ c.whole-r.ensures c.in-Got.is c.if-unbounded.true)
+returns-then-unbounded c = says_unbounded _ c.if-text-eq0.false c.if-text-gt-LONGEST.false (c.too_deep.ensures.1 c.if-too_deep.false) (at_nothing _ c.whole-r.ensures c.in-Some.is c.if-unbounded.true)
 
 pub returns : goal.returns
-returns c = says_accepted _ c.if-text-eq0.false c.if-text-gt-LONGEST.false (c.too_deep.ensures.1 c.if-too_deep.false) (at_nothing _ c.whole-r.ensures c.in-Got.is c.if-unbounded.false)
+returns c = says_accepted _ c.if-text-eq0.false c.if-text-gt-LONGEST.false (c.too_deep.ensures.1 c.if-too_deep.false) (at_nothing _ c.whole-r.ensures c.in-Some.is c.if-unbounded.false)

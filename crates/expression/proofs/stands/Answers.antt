@@ -1,26 +1,31 @@
--- `expression::stands` meets its contract. The invariant: the byte does not stand in the beginning that is passed. Assumes nothing.
-use mathlib.Core.Path.{refl, sym, ap, ◌∙◌}
-use mathlib.Core.Bool.{true≢false, false≢true}
-use lib.Seq.{take_all}
-use borrow.Author.Rules.{rules}
+-- `expression::stands` meets its contract: a byte that is among those of the text stands in it. Assumes nothing.
+use Rattle.std.specs.Prelude.{◌≡◌, refl, Bool, true, false, ◌||◌, List, [], ◌∷◌, ℕ, ◌+◌, eqb}
+use Rattle.std.specs.List.{list_any}
+use Rattle.std.proofs.Common.{sym, ◌∙◌, true≢false, arith}
+use Rattle.meaning.specs.Numbers.{bit}
 use Rattle.meaning.specs.Edges.{number}
 use Rattle.meaning.specs.Expression.{often}
-use Rattle.expression_laws.specs.Depth.{often_passed, often_found}
 use Rattle.expression.proofs.stands.Goals as goal
 
-pub loop-i-init : goal.loop-i-init
+some_by : (t u : Bool) (n : ℕ) → (t || u) ≡ true → (u ≡ true → n ≡ 0 → ⊥) → bit t + n ≡ 0 → ⊥
+some_by true u n e h z = omega arith
+some_by false u n e h z = h e (omega arith)
+
+none_by : (t u : Bool) (n : ℕ) → (t || u) ≡ false → (u ≡ false → n ≡ 0) → bit t + n ≡ 0
+none_by true u n e h = absurd (true≢false e)
+none_by false u n e h = let z = h e in omega arith
+
+some_stand : (b : ℕ) (s : List ℕ) → list_any (λ y. eqb y b) s ≡ true → often b s ≡ 0 → ⊥
 unfolding often number
-loop-i-init c = (search rules, refl)
+some_stand b [] e = absurd (true≢false (sym e))
+some_stand b (x ∷ xs) e = some_by (eqb x b) (list_any (λ y. eqb y b) xs) (often b xs) e (some_stand b xs)
 
-pub returns-then-text-i : goal.returns-then-text-i
-returns-then-text-i c = ((λ _. often_found _ _ c.loop-i.i c.loop-i-test.true c.if-text-i.true), (λ e. absurd (true≢false e)))
-
-pub loop-i-preserved : goal.loop-i-preserved
-loop-i-preserved c =
-    let l = c.loop-i in
-    (search rules, often_passed _ _ l.i c.loop-i-test.true l.invariant.1 c.if-text-i.false)
+none_stand : (b : ℕ) (s : List ℕ) → list_any (λ y. eqb y b) s ≡ false → often b s ≡ 0
+unfolding often number
+none_stand b [] e = refl
+none_stand b (x ∷ xs) e = none_by (eqb x b) (list_any (λ y. eqb y b) xs) (often b xs) e (none_stand b xs)
 
 pub returns : goal.returns
 returns c =
-    let l = c.loop-i in
-    ((λ e _. false≢true e), (λ _. sym (ap (often _) (take_all l.i _ c.loop-i-test.false)) ∙ l.invariant.1))
+    let k = c.contains.ensures.value in
+    ((λ e. some_stand c.args.b c.args.text.now (sym k ∙ e)), (λ e. none_stand c.args.b c.args.text.now (sym k ∙ e)))

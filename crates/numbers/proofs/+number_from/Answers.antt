@@ -11,29 +11,20 @@ returns-then-groups-eq0 t c = let a = c.args in read_none a.file.now a.start a.a
 pub returns-then-file-at : goal.returns-then-file-at
 returns-then-file-at t c = let a = c.args in read_end a.file.now a.start a.at a.groups c.if-groups-eq0.false c.if-file-at.true
 
-pub overflow_add-result : goal.overflow_add-result
-overflow_add-result t c = omega arith
-
 pub returns-then-b-lt128 : goal.returns-then-b-lt128
-returns-then-b-lt128 t c = let a = c.args in read_one a.file.now a.start a.at a.groups _ c.wide-b.ensures c.if-file-at.false c.if-groups-eq0.false c.if-b-lt128.true
-
-pub overflow_add-at : goal.overflow_add-at
-overflow_add-at t c = omega arith
-
-pub number_from-rest-requires : goal.number_from-rest-requires
-number_from-rest-requires t c = omega arith
+returns-then-b-lt128 t c = let a = c.args in read_one a.file.now a.start a.at a.groups _ c.from-b.ensures c.if-file-at.false c.if-groups-eq0.false c.if-b-lt128.true
 
 pub returns-in_default : goal.returns-in_default
-returns-in_default t c = let a = c.args in join_refused _ a.start _ _ _ c.in_default.is ∙ ap (joined _ a.start) c.number_from-rest.ensures ∙ read_more a.file.now a.start a.at a.groups _ c.wide-b.ensures c.if-file-at.false c.if-groups-eq0.false c.if-b-lt128.false
+returns-in_default t c = let a = c.args in join_refused _ a.start _ _ c.in_default.is ∙ ap (joined _ a.start) c.number_from-rest.ensures ∙ read_more a.file.now a.start a.at a.groups _ c.from-b.ensures c.if-file-at.false c.if-groups-eq0.false c.if-b-lt128.false
 
-pub returns-then-v-eq0 : goal.returns-then-v-eq0
-returns-then-v-eq0 t c = let a = c.args in join_zero _ a.start _ _ _ c.in-Value.is c.if-v-eq0.true ∙ ap (joined _ a.start) c.number_from-rest.ensures ∙ read_more a.file.now a.start a.at a.groups _ c.wide-b.ensures c.if-file-at.false c.if-groups-eq0.false c.if-b-lt128.false
+pub returns-then-read-eq0 : goal.returns-then-read-eq0
+returns-then-read-eq0 t c = let a = c.args in join_zero _ a.start _ _ c.in-Ok.is c.if-read-eq0.true ∙ ap (joined _ a.start) c.number_from-rest.ensures ∙ read_more a.file.now a.start a.at a.groups _ c.from-b.ensures c.if-file-at.false c.if-groups-eq0.false c.if-b-lt128.false
 
 pub overflow_mul-result : goal.overflow_mul-result
-overflow_mul-result t c = omega (arith, value_below _ _ _ _ _ _ _ _ (omega arith) c.number_from-rest.ensures c.in-Value.is)
+overflow_mul-result t c = omega (arith, value_below _ _ _ _ _ _ _ (omega arith) c.number_from-rest.ensures c.in-Ok.is)
 
 pub overflow_add-result-2 : goal.overflow_add-result-2
-overflow_add-result-2 t c = omega (arith, value_below _ _ _ _ _ _ _ _ (omega arith) c.number_from-rest.ensures c.in-Value.is)
+overflow_add-result-2 t c = omega (arith, value_below _ _ _ _ _ _ _ (omega arith) c.number_from-rest.ensures c.in-Ok.is)
 
 pub returns : goal.returns
-returns t c = let a = c.args in join_value _ a.start _ _ _ c.in-Value.is c.if-v-eq0.false ∙ ap (joined _ a.start) c.number_from-rest.ensures ∙ read_more a.file.now a.start a.at a.groups _ c.wide-b.ensures c.if-file-at.false c.if-groups-eq0.false c.if-b-lt128.false
+returns t c = let a = c.args in join_value _ a.start _ _ c.in-Ok.is c.if-read-eq0.false ∙ ap (joined _ a.start) c.number_from-rest.ensures ∙ read_more a.file.now a.start a.at a.groups _ c.from-b.ensures c.if-file-at.false c.if-groups-eq0.false c.if-b-lt128.false

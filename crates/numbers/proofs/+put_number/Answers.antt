@@ -1,19 +1,9 @@
 -- `numbers::put_number` meets its contract, group by group; the groups left fall. Assumes nothing.
-use native.Mathlib.Omega.{arith}
 use Rattle.numbers.proofs.Groups.{write_one, several, write_more}
 use Rattle.numbers.proofs.+put_number.Goals as goal
 
 pub returns-then-v-lt128 : goal.returns-then-v-lt128
 returns-then-v-lt128 t c = write_one _ _ _ _ _ c.requires.0 c.if-v-lt128.true c.put_byte.ensures
-
-pub overflow_add-at : goal.overflow_add-at
-overflow_add-at t c = omega arith
-
-pub overflow_sub-groups : goal.overflow_sub-groups
-overflow_sub-groups t c = omega arith
-
-pub put_number-requires : goal.put_number-requires
-put_number-requires t c = let s = several _ _ c.requires.1.0 c.if-v-lt128.false in omega arith
 
 pub returns : goal.returns
 returns t c = let s = several _ _ c.requires.1.0 c.if-v-lt128.false in write_more _ _ _ _ _ _ _ s c.put_byte-2.ensures c.put_number.ensures.0 c.put_number.ensures.1

@@ -1,11 +1,6 @@
 -- `parts::put_levels` meets its contract. Assumes nothing.
-use Prim.Native.Nat.{◌-◌}
-use lib.ListN.{length}
 use Rattle.parts.proofs.Levelling.{Levelling}
 use Rattle.parts.proofs.put_levels.Given as goal
 
 abbrev pub invariant-loop-i : goal.invariant-loop-i
 invariant-loop-i l = Levelling l.ws l.vx l.n l.initial.out l.out l.i
-
-abbrev pub decreases-loop-i : goal.decreases-loop-i
-decreases-loop-i l = length l.ws - l.i

@@ -1,33 +1,31 @@
 -- `program::answer_edges` meets its contract: a run that refuses, or an accepted one with its area. Assumes nothing.
-use mathlib.Core.Path.{refl}
-use Prim.Native.Nat.{◌≤◌}
-use native.Mathlib.Omega.{arith}
-use native.Mathlib.Nat.{sub-zero}
-use lib.ListN.{length-take}
-use Rattle.walked.specs.WalkedLaws.{cells_all}
-use Rattle.program.specs.Edges.{edges_refused, edges_most, edges_shown}
-use borrow.Author.Rules.{rules}
+use Rattle.std.proofs.Common.{refl, ◌≤◌, rules, arith}
+use Rattle.std.proofs.Math.Nat.{sub-zero}
+use Rattle.std.proofs.lemmas.Result.{err_from_is_err_and}
+use Rattle.program.specs.Edges.{run_refused, edges_most, edges_shown}
 use Rattle.program.proofs.answer_edges.Goals as goal
 
-pub returns-then-run-ne0 : goal.returns-then-run-ne0
-returns-then-run-ne0 c = record { text = _; is = edges_refused _ _ _ _ refl _ _ c.if-run-ne0.true c.walk-walked.ensures.run; front = c.refused.ensures }
+pub returns-in_err-found : goal.returns-in_err-found
+returns-in_err-found c =
+    let p = err_from_is_err_and c.from_residual.result c.from_residual.ensures.1 in
+    rw (p.1, p.2) (run_refused _ _ _ _ refl _ c.in_err-found.ensures.run, refl)
+
+pub returns-in_err-count : goal.returns-in_err-count
+returns-in_err-count c =
+    let p = err_from_is_err_and c.from_residual-in_err-count.result c.from_residual-in_err-count.ensures.1 in
+    rw (p.1, p.2) (run_refused _ _ _ _ refl _ (rw c.in_err-count.was at c.in_ok-found.ensures.run), refl)
 
 pub overflow_mul-n : goal.overflow_mul-n
 overflow_mul-n c =
-    let h : c.walk-walked.result.answer.value ≤ 2048 = edges_most _ _ _ _ refl _ _ c.if-run-ne0.false c.walk-walked.ensures.run in
+    let h : c.in_ok-count.count ≤ 2048 = edges_most _ _ _ _ refl 0 _ refl (rw c.in_ok-count.was at c.in_ok-found.ensures.run) in
     search rules
 
 pub slice_bounds-accepted-end-2 : goal.slice_bounds-accepted-end-2
 slice_bounds-accepted-end-2 c =
-    let h : c.walk-walked.result.answer.value ≤ 2048 = edges_most _ _ _ _ refl _ _ c.if-run-ne0.false c.walk-walked.ensures.run in
-    omega (arith, c.walk-walked.auto.records)
-
-pub accepted-requires : goal.accepted-requires
-accepted-requires c =
-    let h : c.walk-walked.result.answer.value ≤ 2048 = edges_most _ _ _ _ refl _ _ c.if-run-ne0.false c.walk-walked.ensures.run in
-    simp length-take (search rules)
+    let h : c.in_ok-count.count ≤ 2048 = edges_most _ _ _ _ refl 0 _ refl (rw c.in_ok-count.was at c.in_ok-found.ensures.run) in
+    omega (arith, c.walk.auto.records)
 
 pub returns : goal.returns
 returns c =
-    let w = c.walk-walked.ensures in
-    record { text = _; is = edges_shown _ _ _ _ refl _ _ c.if-run-ne0.false w.run _ (cells_all _ _ _ w c.if-run-ne0.false); front = rw sub-zero at c.accepted.ensures }
+    let w = c.in_ok-found.ensures in
+    record { text = _; is = edges_shown _ _ _ _ refl 0 _ refl (rw c.in_ok-count.was at w.run) _ w.area; front = rw sub-zero at c.accepted.ensures }

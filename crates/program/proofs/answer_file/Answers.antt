@@ -1,26 +1,32 @@
 -- `program::answer_file` meets its contract: a file that is refused, or the edges of its ring list. Assumes nothing.
-use mathlib.Core.Path.{refl}
-use native.Mathlib.Omega.{arith}
-use native.Mathlib.Nat.{sub-zero}
-use Rattle.program.specs.Files.{file_refused, read_most, made_most, read_edges, file_edges}
-use Rattle.program.specs.Answered.{answered_as}
+use Rattle.std.proofs.Common.{refl, sym, arith}
+use Rattle.std.proofs.Math.Nat.{sub-zero}
+use Rattle.std.proofs.lemmas.Result.{err_from_is_err_and}
+use Rattle.answers.specs.Told.{never_accepted}
+use Rattle.program.specs.Files.{read_refused, read_most, made_accepted, made_most, read_edges, file_edges}
+use Rattle.program.specs.Answered.{answers_as}
 use Rattle.program.proofs.answer_file.Goals as goal
 
-pub returns-then-read-ne0 : goal.returns-then-read-ne0
-returns-then-read-ne0 c = record { text = _; is = file_refused _ _ _ _ _ _ refl c.if-read-ne0.true c.read-read.ensures; front = c.refused.ensures }
+pub returns-in_err-n : goal.returns-in_err-n
+returns-in_err-n c =
+    let p = err_from_is_err_and c.from_residual.result c.from_residual.ensures.1 in
+    rw (p.1, p.2) (read_refused _ _ _ _ _ refl c.in_err-n.ensures, refl)
 
 pub slice_bounds-edges_of-end : goal.slice_bounds-edges_of-end
-slice_bounds-edges_of-end c =
-    let read = c.read-read in
-    omega (arith, read_most _ _ _ _ _ c.if-read-ne0.false read.ensures, read.auto.rings)
+slice_bounds-edges_of-end c = omega (arith, read_most _ _ _ _ _ refl c.in_ok-n.ensures, c.read.auto.rings)
+
+-- the list of a file has edges
+pub returns-in_err-m : goal.returns-in_err-m
+returns-in_err-m c =
+    let a = made_accepted _ _ _ _ _ refl c.in_ok-n.ensures _ _ refl _ (rw sub-zero at c.in_err-m.ensures) in
+    absurd (never_accepted _ a.0 (sym a.1))
 
 pub slice_bounds-answer_edges-end : goal.slice_bounds-answer_edges-end
 slice_bounds-answer_edges-end c =
-    let made = c.edges_of-made in
-    omega (arith, made_most _ _ _ _ _ c.if-read-ne0.false c.read-read.ensures _ _ refl _ (rw sub-zero at made.ensures), made.auto.edges)
+    omega (arith, made_most _ _ _ _ _ refl c.in_ok-n.ensures _ _ refl _ (rw sub-zero at c.in_ok-m.ensures), c.edges_of.auto.edges)
 
 pub returns : goal.returns
 returns c =
-    answered_as
-    (λ t x. file_edges _ _ _ t (read_edges _ _ _ _ _ c.if-read-ne0.false c.read-read.ensures _ _ refl _ (rw sub-zero at c.edges_of-made.ensures)) x)
+    answers_as _ _ _
+    (λ t x. file_edges _ _ _ t (read_edges _ _ _ _ _ refl c.in_ok-n.ensures _ _ refl _ (rw sub-zero at c.in_ok-m.ensures)) x)
     (rw sub-zero at c.answer_edges.ensures)

@@ -1,11 +1,6 @@
 -- `ranking::ranks_of` meets its contract. Assumes nothing.
-use Prim.Native.Nat.{◌-◌}
-use lib.ListN.{length}
 use Rattle.ranking.proofs.Walk.{Ranking}
 use Rattle.ranking.proofs.ranks_of.Given as goal
 
 abbrev pub invariant-loop-i : goal.invariant-loop-i
 invariant-loop-i l = Ranking l.base l.ws l.initial.values l.initial.ranks l.values l.ranks l.last l.k l.i
-
-abbrev pub decreases-loop-i : goal.decreases-loop-i
-decreases-loop-i l = length l.ws - l.i

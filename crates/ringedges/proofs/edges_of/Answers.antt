@@ -1,17 +1,21 @@
 -- `ringedges::edges_of` meets its contract. Assumes nothing.
+use mathlib.Core.Path.{refl}
+use Rattle.std.proofs.lemmas.Result.{err_from_is_err_and}
 use Rattle.meaning.specs.Rings.{ring_edges}
 use Rattle.meaning.specs.Faults.{Edged}
 use Rattle.reading_laws.specs.OutcomeLaws.{list_table, settled_refused, made_refused, made_done}
 use Rattle.ringedges.proofs.edges_of.Goals as goal
 
-pub returns-in_default : goal.returns-in_default
+pub returns-in_err-settled : goal.returns-in_err-settled
 unfolding Edged
-returns-in_default c = settled_refused (list_table ring_edges _ _) _ _ _ _ c.edges_from.ensures c.settled-judged.ensures _ _ _ c.in_default.is c.answer.ensures
+returns-in_err-settled c =
+    let p = err_from_is_err_and c.from_residual.result c.from_residual.ensures.1 in
+    settled_refused (list_table ring_edges _ _) _ _ _ _ c.walk.ensures c.settled.ensures _ _ c.in_err-settled.was (rw (p.1, p.2))
 
-pub returns-in_default-made : goal.returns-in_default-made
+pub returns-in_err-written : goal.returns-in_err-written
 unfolding Edged
-returns-in_default-made c = made_refused (list_table ring_edges _ _) _ _ _ _ c.edges_from.ensures c.settled-judged.ensures _ _ c.in-Value.is _ _ _ _ _ c.edges_from-made.ensures c.in_default-made.is
+returns-in_err-written c = made_refused (list_table ring_edges _ _) _ _ _ _ c.walk.ensures c.settled.ensures _ c.in_ok-settled.was _ _ _ _ c.walk-2.ensures c.in_err-written.was
 
 pub returns : goal.returns
 unfolding Edged
-returns c = made_done (list_table ring_edges _ _) _ _ _ _ c.edges_from.ensures c.settled-judged.ensures _ _ c.in-Value.is _ _ _ _ _ c.edges_from-made.ensures c.in-Value-made.is c.accepted.ensures
+returns c = made_done (list_table ring_edges _ _) _ _ _ _ c.walk.ensures c.settled.ensures _ c.in_ok-settled.was _ _ _ _ c.walk-2.ensures c.in_ok-written.was refl

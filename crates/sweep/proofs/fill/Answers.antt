@@ -1,37 +1,42 @@
 -- `sweep::fill` meets its contract. Assumes nothing.
+use mathlib.Core.Path.{refl, ◌∙◌}
 use native.Mathlib.Omega.{arith}
 use Rattle.sweep.specs.Going.{filling_start, advance_ready, line_ready, filling_more, filling_full, filling_done}
 use Rattle.sweep.proofs.fill.Goals as goal
 
 pub loop-e-init : goal.loop-e-init
-loop-e-init c = filling_start c.requires
+loop-e-init c = record { filling = filling_start c.requires; counts = refl; covers = refl }
 
-pub returns-then-loc-k : goal.returns-then-loc-k
-returns-then-loc-k c = let F = c.loop-e.invariant in filling_full F c.loop-e-test.true (omega (arith, c.if-loc-k.true, F.low))
+pub returns-then-loc-k-clause-filled : goal.returns-then-loc-k-clause-filled
+returns-then-loc-k-clause-filled c = let F = c.loop-e.invariant.filling in filling_full F c.loop-e-test.true (omega (arith, c.if-loc-k.true, F.low))
 
 pub advance-t-requires : goal.advance-t-requires
 advance-t-requires c =
-    let F = c.loop-e.invariant in
+    let F = c.loop-e.invariant.filling in
     advance_ready F.given F.going c.loop-e-test.true
 
 pub value-y-requires : goal.value-y-requires
 value-y-requires c =
-    let F = c.loop-e.invariant in
+    let F = c.loop-e.invariant.filling in
     omega (arith, F.given.heights _ c.loop-e-test.true)
 
 pub read-r-requires : goal.read-r-requires
 read-r-requires c =
-    let F = c.loop-e.invariant in
-    line_ready F.given F.going c.loop-e-test.true c.advance-t.ensures.0 (omega (arith, c.if-loc-k.false, F.low)) _ c.value-y.ensures
+    let F = c.loop-e.invariant.filling in
+    line_ready F.given F.going c.loop-e-test.true c.advance-t.ensures.advanced (omega (arith, c.if-loc-k.false, F.low)) _ c.value-y.ensures
 
 pub loop-e-smaller : goal.loop-e-smaller
-loop-e-smaller c = omega (arith, c.advance-t.ensures.0.more, c.advance-t.ensures.0.fits)
+loop-e-smaller c = omega (arith, c.advance-t.ensures.advanced.more, c.advance-t.ensures.advanced.fits)
 
 pub loop-e-preserved : goal.loop-e-preserved
 loop-e-preserved c =
     let F = c.loop-e.invariant in
     let A = c.advance-t.ensures in
-    filling_more F c.loop-e-test.true A.0 (omega (arith, c.if-loc-k.false, F.low)) _ c.value-y.ensures A.1 c.read-r.ensures
+    record {
+      filling = filling_more F.filling c.loop-e-test.true A.advanced (omega (arith, c.if-loc-k.false, F.filling.low)) _ c.value-y.ensures A.fresh c.read-r.ensures;
+      counts = A.lent.0 ∙ F.counts;
+      covers = A.lent.1 ∙ F.covers;
+    }
 
-pub returns : goal.returns
-returns c = filling_done c.loop-e.invariant (omega arith)
+pub returns-clause-filled : goal.returns-clause-filled
+returns-clause-filled c = filling_done c.loop-e.invariant.filling (omega arith)

@@ -6,4 +6,4 @@ pub write-requires : goal.write-requires
 write-requires c = c.requires.ready _ _ c.in_order-base.ensures
 
 pub returns : goal.returns
-returns c = record { base = _; ws = _; order = c.in_order-base.ensures; wrote = c.write.ensures }
+returns c = record { base = _; ws = _; order = c.in_order-base.ensures; wrote = c.write.ensures.wrote }

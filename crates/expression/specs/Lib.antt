@@ -1,2 +1,0 @@
--- What the verdicts stand for.
-pub mod Verdicts

@@ -1,3 +1,0 @@
--- Laws of writing a mask file.
-pub mod Differences
-pub mod Walk

@@ -1,0 +1,3 @@
+-- What the contract of `tallies` cites, and its laws.
+pub mod Tallies
+pub mod Laws

@@ -1,3 +1,0 @@
--- What a walk answers: run and area at once.
-pub mod Walks
-pub mod WalkedLaws
