@@ -47,7 +47,7 @@ def shape(body):
     """The body with names, numbers and types replaced by the order in which they come."""
     known = {}
     words = []
-    for word in re.findall(rf"{IDENT}|\d+|[^\s\w]", " ".join(body)):
+    for word in re.findall(rf"{IDENT}|\d+|[^\s\w]", " ".join(line.split("//")[0] for line in body)):
         if word in ("let", "mut", "if", "else", "while", "for", "in", "return", "match", "as", "true", "false"):
             words.append(word)
         elif re.match(r"\w", word):

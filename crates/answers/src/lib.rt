@@ -1,4 +1,4 @@
-// What every call answers: the value of what was accepted, or a refusal of the table; and the two numbers in which C is told.
+// What every call answers: the value of what was accepted, or a refusal of the table; and the two numbers in which C is told and the program prints.
 #![tactic(auto)]
 
 ghost use Rattle.std.specs.Prelude.{◌≡◌};
@@ -73,7 +73,7 @@ impl Refusal {
     }
 }
 
-// An answer in C: 0 with the value of what was accepted, or the number of a refusal with its value.
+// An answer in numbers, as C is told it and as it is printed: 0 with the value of what was accepted, or the number of a refusal with its value.
 #[repr(C)]
 #[derive(Clone, Copy, Debug, PartialEq, Eq)]
 pub struct Answer {

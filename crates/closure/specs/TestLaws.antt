@@ -5,31 +5,32 @@
 --   MarkedTo, mark_start, mark_room, mark_more, mark_end   the loop of `mark_all`: the first k edges are marked
 --   layer_more                   one layer more
 --   layer_rows                   where the rows of a layer stand
+--   layers_told, NoneUneven, layers_even   what `all` tells of the layers
+--   first_open, none_open        what `find` tells of the ranks
 --   row_even, even_row, rows_answer, rows_open, found_tested   what rows of marks say of the edges
 --   test_up                      ranks below nx are below n
-use Rattle.std.specs.Prelude.{◌≡◌, refl, Bool, true, false, List, [], ◌∷◌, ℕ, zero, suc, ◌+◌, ◌*◌, ◌<◌, ◌≤◌, eqb, length, get_or, take, Result, Ok, Err}
-use Rattle.std.proofs.Common.{sym, ap, ap₂, ◌∙◌, subst, true≢false, ⊎_elim, add-one, eq-or-lt_of_le, arith, take-suc, take_all, length-take-le, ne_eqb}
+use Rattle.std.specs.Prelude.{◌≡◌, refl, Bool, true, false, List, [], ◌∷◌, ℕ, zero, suc, ◌+◌, ◌*◌, ◌<◌, ◌≤◌, eqb, length, get_or, take, drop, ◌-◌, Result, Ok, Err}
+use Rattle.std.proofs.Common.{sym, ap, ap₂, ◌∙◌, subst, true≢false, ⊎_elim, add-one, eq-or-lt_of_le, zero-add, arith, take-suc, take_all, length-take-le, ne_eqb}
 use Rattle.std.proofs.lemmas.Bool.{false≢true}
+use Rattle.std.proofs.lemmas.List.FromFn.{get_or-range_with_len}
+use Rattle.std.specs.Bool.{MatchBool}
+use Rattle.std.specs.List.{range_with_len, AllWithin, HoldsAt, count_by}
 use Rattle.std.proofs.Math.Decide.{dec_lt}
 use Rattle.meaning.specs.Numbers.{bit}
 use Rattle.meaning.specs.Edges.{Edge, edge, number}
 use Rattle.basic_laws.specs.Lists.{All, all_map, number_none, number_append}
 use Rattle.basic_laws.specs.Tests.{and_off}
 use Rattle.strips.specs.Rows.{row_at, layer_fits}
-use Rattle.marks.specs.Marks.{from_at, to_at, Marked, marked_by}
+use Rattle.marks.specs.Fresh.{fresh_between}
+use Rattle.marks.specs.Marks.{from_at, to_at, Marked, marked_by, not_fresh}
 use Rattle.marks.specs.MarkLaws.{most_all}
 use Rattle.marks.specs.MarkMore.{marked_more}
+use Rattle.lifting.specs.Columns.{twice, twice_one}
 use Rattle.closure.specs.declared.Open.{Open}
 use Rattle.closure.specs.Testing.{edges_by, EvenAt, LeastUneven, TestOk, EvenFrom, RowsOk, EvenRows, UnevenRow, EvenTold, FoundOpen, Found, Tested}
 
 abbrev none : Edge ℕ
 none = edge 0 0 0 0
-
-twice : (j : ℕ) → suc (suc (j + j)) ≡ suc j + suc j
-twice j = omega arith
-
-twice_one : (j : ℕ) → suc (suc (j + j + 1)) ≡ suc j + suc j + 1
-twice_one j = omega arith
 
 -- ---- the edges
 
@@ -173,6 +174,33 @@ told_no n c x false E e = E
 
 pub rows_more : (n : ℕ) (c : List ℕ) (x : ℕ) → EvenRows n x c → ((l : ℕ) → l < 8 → row_at n c l x ≡ 8192) → EvenRows n (x + 1) c
 rows_more n c x E F l y hl h = ⊎_elim (λ e. rw e (F l hl)) (λ g. E l y hl g) (eq-or-lt_of_le {n = y} {m = x} (omega arith))
+
+-- ---- what is told of eight layers, and of ranks
+
+layers_each : (P : ℕ → Type 0) → AllWithin P (range_with_len 0 8) 0 8 → (l : ℕ) → l < 8 → P l
+layers_each P A l h = subst P (get_or-range_with_len 0 8 l 0 h ∙ zero-add l) (A l 0 (omega arith) h)
+
+layers_some : (P : ℕ → Type 0) (k : ℕ) → k < 8 → HoldsAt P (range_with_len 0 8) k → P k
+layers_some P k h H = subst P (get_or-range_with_len 0 8 k 0 h ∙ zero-add k) (H 0)
+
+pub layers_told : (n : ℕ) (c : List ℕ) (x : ℕ) (r : Bool) → MatchBool r (AllWithin (λ l. row_at n c l x ≡ 8192) (range_with_len 0 8) 0 8) ((k : ℕ) × (k < 8) × HoldsAt (λ l. row_at n c l x ≡ 8192 → ⊥) (range_with_len 0 8) k) → EvenTold n c x r
+layers_told n c x true A = layers_each (λ l. row_at n c l x ≡ 8192) A
+layers_told n c x false S = record { layer = S.0; eight = S.1; marked = layers_some (λ l. row_at n c l x ≡ 8192 → ⊥) S.0 S.1 S.2 }
+
+-- none of the marks of layer l at the ranks below nx is not zero, as `uneven` counts them
+abbrev pub NoneUneven : ℕ → ℕ → List ℕ → ℕ → Type 0
+NoneUneven n nx c l = count_by not_fresh (take (l * n + nx - l * n) (drop (l * n) c)) ≡ 0
+
+pub layers_even : {n nx : ℕ} {c : List ℕ} → RowsOk n nx c → (r : Bool) → MatchBool r (AllWithin (NoneUneven n nx c) (range_with_len 0 8) 0 8) ((k : ℕ) × (k < 8) × HoldsAt (λ _. Unit {0}) (range_with_len 0 8) k) → r ≡ true → EvenRows n nx c
+layers_even {n} {nx} {c} R true A e = λ l x h g.
+    fresh_between c (l * n) (l * n + nx) (layers_each (NoneUneven n nx c) A l h) (l * n + x) (omega arith) (omega arith) (layer_rows R l h)
+layers_even R false S e = absurd (false≢true e)
+
+pub first_open : (n : ℕ) {nx x : ℕ} (c : List ℕ) → (0 ≤ x) × (x < nx) × UnevenRow n c x × ((k : ℕ) → 0 ≤ k → k < x → (l : ℕ) → l < 8 → row_at n c l k ≡ 8192) → FoundOpen n nx c x
+first_open n c F = record { low = F.1; row = F.2; before = λ l y hl hy. F.3 y (omega arith) hy l hl }
+
+pub none_open : (n : ℕ) {nx : ℕ} (c : List ℕ) → ((k : ℕ) → 0 ≤ k → k < nx → (l : ℕ) → l < 8 → row_at n c l k ≡ 8192) → EvenRows n nx c
+none_open n c F l y hl hy = F y (omega arith) hy l hl
 
 -- ---- what rows of marks say of the edges
 

@@ -24,7 +24,10 @@ impl From<Open> for Refusal {
     }
 }
 
-// The marks of all edges. Layers and ends are columns, and no list of edges: the sorting and the sweep go along one of them, in vector code.
+// The marks of all edges.
+//
+// Layers and ends are two slices, and no list of edges, which is no plainer: the ends are the ranks that `axis` puts beside the xs, so a list would be one more array, copied
+// from the two.
 fn mark_all(layers: &[u8], ends: &[u16], n: usize, c: &mut [u16])
     requires { TestOk layers.now ends.now n n c.old }
     ensures { Marked n (edges_by layers.now ends.now) c.new }
@@ -41,13 +44,10 @@ fn all_even(c: &[u16], n: usize, nx: usize) -> bool
     requires { RowsOk n nx c.now }
     ensures { result ≡ true → EvenRows n nx c.now }
 {
-    for layer in 0..Scanline::LAYERS {
+    (0..Scanline::LAYERS).all(|layer| {
         let base = layer * n;
-        if 0 < marks::uneven(&c[base..base + nx]) {
-            return false;
-        }
-    }
-    true
+        marks::uneven(&c[base..base + nx]) == 0
+    })
 }
 
 // Whether the marks of all layers at rank x are zero.
@@ -55,24 +55,18 @@ fn even_at(c: &[u16], n: usize, x: usize) -> bool
     requires { RowsOk n n c.now × (x < n) }
     ensures { EvenTold n c.now x result }
 {
-    for layer in 0..Scanline::LAYERS {
-        if c[layer * n + x] != Scanline::ZERO {
-            return false;
-        }
-    }
-    true
+    (0..Scanline::LAYERS).all(|layer| c[layer * n + x] == Scanline::ZERO)
 }
 
+// The first rank below nx at which some layer's marks are not zero.
 fn search(c: &[u16], n: usize, nx: usize) -> Result<(), Open>
     requires { RowsOk n nx c.now }
     ensures { Found n nx c.now result }
 {
-    for x in 0..nx {
-        if !even_at(c, n, x) {
-            return Err(Open { rank: x });
-        }
+    match (0..nx).find(|x| !even_at(c, n, *x)) {
+        Some(rank) => Err(Open { rank }),
+        None => Ok(()),
     }
-    Ok(())
 }
 
 // Whether the edges of layers and ends, of which the ranks are below nx, are closed by ends. c is fresh before and has the marks of all edges after, so it is fresh again

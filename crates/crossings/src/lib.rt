@@ -1,7 +1,8 @@
 // The sweep by edges: the edges of one place, in the order of y, across the rows of the strips.
 #![tactic(auto)]
 
-ghost use Rattle.std.specs.Prelude.{◌≡◌, ◌≢◌, ℕ, ◌+◌, ◌/◌, ◌%◌, ◌<◌, List, length, get_or};
+ghost use Rattle.std.specs.Prelude.{◌≡◌, ◌≢◌, ℕ, ◌+◌, ◌%◌, ◌<◌, List, length, get_or};
+ghost use Rattle.strips.specs.Lent.{Lent};
 ghost use Rattle.strips.specs.Strips.{lower, upper};
 ghost use Rattle.marks.specs.Marks.{FreshMarks};
 ghost use Rattle.crossings.specs.declared.Reach.{Reach};
@@ -16,7 +17,8 @@ use strips::Strips;
 // It chooses the way only: the answer does not depend on it.
 const MANY: usize = 32;
 
-// The edges: a word stands for each, 8,192 times its y and its number k. Its layer stands at k in `layers`, the ranks of its from and to at k + k and k + k + 1 in `ends`.
+// The edges: a word stands for each, 8,192 times how far its y lies above the least, and its number k. Its layer stands at k in `layers`, the ranks of its from and to at
+// k + k and k + k + 1 in `ends`.
 #[derive(Clone, Copy)]
 pub struct Edges<'a> {
     pub words: &'a [u64],
@@ -39,26 +41,14 @@ pub struct Reach {
     pub hi: usize,
 }
 
-fn height(w: u64) -> u64
-    ensures { result ≡ w / 8192 }
-{
-    w / 8192
-}
-
-fn number(w: u64) -> usize
-    ensures { result ≡ w % 8192 }
-{
-    // A cast: `usize` has no `From<u64>`, and no number below 8,192 fails to fit.
-    (w % 8192) as usize
-}
-
+#[tactic(auto, unfolding(words::specs::Words::place_of))]
 impl Edges<'_> {
     // The layer of the edge of a word.
     fn layer(self, w: u64) -> usize
         requires { w % 8192 < length self.layers.now }
         ensures { result ≡ layer_of self.entry.layers.now w }
     {
-        usize::from(self.layers[number(w)])
+        usize::from(self.layers[words::place(w)])
     }
 
     // The rank of its from.
@@ -66,7 +56,7 @@ impl Edges<'_> {
         requires { w % 8192 + w % 8192 < length self.ends.now }
         ensures { result ≡ from_of self.entry.ends.now w }
     {
-        let k = number(w);
+        let k = words::place(w);
         usize::from(self.ends[k + k])
     }
 
@@ -75,7 +65,7 @@ impl Edges<'_> {
         requires { w % 8192 + w % 8192 + 1 < length self.ends.now }
         ensures { result ≡ to_of self.entry.ends.now w }
     {
-        let k = number(w);
+        let k = words::place(w);
         usize::from(self.ends[k + k + 1])
     }
 }
@@ -166,12 +156,12 @@ fn each<S: Step>(edges: Edges<'_>, g: usize, n: usize, on: &mut S) -> Touched
     ensures held { S.holds n edges.entry.words.now edges.entry.layers.now edges.entry.ends.now g on.old result.next result.lo result.hi on.new }
     ensures stop { result.next < length edges.entry.words.now → height_of (get_or edges.entry.words.now result.next 0) ≢ height_of (get_or edges.entry.words.now g 0) }
 {
-    let y = height(edges.words[g]);
+    let y = words::height(edges.words[g]);
     let mut lo = n;
     let mut hi = 0;
     for e in g..edges.words.len() {
         let w = edges.words[e];
-        if height(w) != y {
+        if words::height(w) != y {
             return Touched { next: e, lo, hi };
         }
         let s = on.step(w, edges, n);
@@ -196,7 +186,7 @@ fn marked(
     requires { AdvanceOk n edges.words.now edges.layers.now edges.ends.now g strips.old.counts.now strips.old.covers.now × FreshMarks n marks.old }
     ensures advanced { Advanced n edges.entry.words.now edges.entry.layers.now edges.entry.ends.now g strips.old.counts.now strips.new.counts.now strips.old.covers.now strips.new.covers.now result }
     ensures fresh { marks.new ≡ marks.old }
-    ensures lent { (strips.new.counts.ghost_name ≡ strips.old.counts.ghost_name) × (strips.new.covers.ghost_name ≡ strips.old.covers.ghost_name) }
+    ensures lent { Lent strips.old strips.new }
 {
     let mut m = Marks { marks };
     let t = each(edges, g, n, &mut m);
@@ -209,10 +199,7 @@ fn many(ws: &[u64], g: usize) -> bool
     requires { g < length ws.now }
     ensures { result ≡ many_at ws.now g }
 {
-    if ws.len() - g < MANY {
-        return false;
-    }
-    height(ws[g + MANY - 1]) == height(ws[g])
+    MANY <= ws.len() - g && words::height(ws[g + MANY - 1]) == words::height(ws[g])
 }
 
 // The edges of the place of edge g, the faster way. The marks are fresh, before and after.
@@ -226,7 +213,7 @@ pub fn advance(
     requires { AdvanceOk n edges.words.now edges.layers.now edges.ends.now g strips.old.counts.now strips.old.covers.now × FreshMarks n marks.old }
     ensures advanced { Advanced n edges.entry.words.now edges.entry.layers.now edges.entry.ends.now g strips.old.counts.now strips.new.counts.now strips.old.covers.now strips.new.covers.now result }
     ensures fresh { marks.new ≡ marks.old }
-    ensures lent { (strips.new.counts.ghost_name ≡ strips.old.counts.ghost_name) × (strips.new.covers.ghost_name ≡ strips.old.covers.ghost_name) }
+    ensures lent { Lent strips.old strips.new }
 {
     if many(edges.words, g) {
         return marked(edges, g, n, strips, marks);

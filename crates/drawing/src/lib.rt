@@ -14,7 +14,9 @@ pub struct View {
     pub zoom: i32,
 }
 
-// A record as it is given: four numbers. It is no `edge::Record`, whose first number is a layer, and whose test is another.
+// A record as it is given: four numbers.
+// One struct with `edge::Record` would be no plainer: there the first number is a layer, and the test is another.
+// The kind is no enum. What may not change is that `Drawing` speaks of every kind, and answers one that is none with 3: C hands any number in.
 #[derive(Clone, Copy, Debug, PartialEq, Eq)]
 pub struct Record {
     pub kind: i32,
@@ -31,7 +33,8 @@ pub struct Floats {
     pub to: f32,
 }
 
-// A level edge, an upright one, or a refusal's number: the specification names this form, so a refusal is no `Err` here.
+// A level edge, an upright one, or a refusal's number.
+// A rule of the project: the specification, under "The form each place takes", names an enum with a refusal case that has a number, so a refusal is no `Err` and no `Refusal` here.
 #[derive(Clone, Copy, Debug)]
 pub enum Drawn {
     Level(Floats),
@@ -52,6 +55,7 @@ fn is_kind(kind: i32) -> bool
 }
 
 impl View {
+    #[tactic(auto, unfolding(meaning::specs::Drawn::view_in_range))]
     fn in_range(self) -> bool
         ensures { result ≡ view_in_range self.ox self.oy self.zoom }
     {
@@ -60,6 +64,7 @@ impl View {
 }
 
 impl Record {
+    #[tactic(auto, unfolding(meaning::specs::Drawn::record_in_range), using(std::proofs::lemmas::Int::wraps))]
     fn in_range(self) -> bool
         ensures { result ≡ record_in_range self.kind self.place self.from self.to }
     {
@@ -92,7 +97,8 @@ fn offset(coordinate: i32, origin: i32) -> i64
     i64::from(coordinate) - i64::from(origin)
 }
 
-// d / 2^z. The cast loses nothing, and each half is exact. That z is at most 16 is asked here and in the two functions that hand it on: a type for it would be opened here again.
+// d / 2^z. The cast loses nothing, and each half is exact.
+// That z is at most 16 is asked here and in the two functions that hand it on. A type for it would be no plainer: it would be opened here again.
 fn halved(d: i64, z: u32) -> f32
     requires d_bound { nat_abs d ≤ farthest }
     requires z_bound { z ≤ 16 }
@@ -106,6 +112,7 @@ fn halved(d: i64, z: u32) -> f32
 }
 
 impl Offsets {
+    #[tactic(auto, unfolding(meaning::specs::Drawn::all_drawn))]
     fn are_drawn(self) -> bool
         ensures { result ≡ all_drawn self.place self.from self.to }
     {
@@ -125,7 +132,8 @@ impl Offsets {
     }
 }
 
-// The edge with these three offsets. `level` chooses the case of the answer, and no step.
+// The edge with these three offsets.
+// `level` is a bool: an enum of the two would be no plainer, since it chooses the case of the answer and no step.
 fn by_offsets(level: bool, offsets: Offsets, z: u32) -> Drawn
     requires { z ≤ 16 }
     ensures { ByOffsets level offsets.place offsets.from offsets.to z result }
@@ -141,7 +149,7 @@ fn by_offsets(level: bool, offsets: Offsets, z: u32) -> Drawn
     }
 }
 
-// The record in the view.
+// The record in the view: its place on the axis across the edge, its ends on the axis along it.
 pub fn draw(view: View, given: Record) -> Drawn
     ensures { Drawing view.ox view.oy view.zoom given.kind given.place given.from given.to result }
 {
@@ -155,19 +163,16 @@ pub fn draw(view: View, given: Record) -> Drawn
         return Drawn::Refused(4);
     }
     let z = view.zoom as u32;
-    if given.kind == 0 {
-        let offsets = Offsets {
-            place: offset(given.place, view.oy),
-            from: offset(given.from, view.ox),
-            to: offset(given.to, view.ox),
-        };
-        by_offsets(true, offsets, z)
+    let level = given.kind == 0;
+    let (across, along) = if level {
+        (view.oy, view.ox)
     } else {
-        let offsets = Offsets {
-            place: offset(given.place, view.ox),
-            from: offset(given.from, view.oy),
-            to: offset(given.to, view.oy),
-        };
-        by_offsets(false, offsets, z)
-    }
+        (view.ox, view.oy)
+    };
+    let offsets = Offsets {
+        place: offset(given.place, across),
+        from: offset(given.from, along),
+        to: offset(given.to, along),
+    };
+    by_offsets(level, offsets, z)
 }

@@ -51,6 +51,7 @@ fn lifted(z: i32) -> u32
 
 impl Record {
     // Record k of an edge list.
+    #[tactic(auto, unfolding(basic_laws::specs::Fours::edge_at))]
     pub fn at(edges: &[i32], k: usize) -> Self
         requires { 4 * k + 3 < length edges.now }
         ensures { edge_of result ≡ edge_at edges.now k }
@@ -64,6 +65,7 @@ impl Record {
     }
 
     // Whether it has a layer from 0 to 7, and coordinates within the limit.
+    #[tactic(auto, using(basic_laws::specs::Signed::read32), unfolding(meaning::specs::Edges::sound_edge))]
     pub fn is_sound(self) -> bool
         ensures { result ≡ sound_edge 7 limit (edge_of self) }
     {
@@ -74,6 +76,7 @@ impl Record {
     }
 
     // Whether its from equals its to.
+    #[tactic(auto, using(basic_laws::specs::Signed::eq_bits), unfolding(meaning::specs::Edges::flat))]
     pub fn is_flat(self) -> bool
         ensures { result ≡ flat (edge_of self) }
     {

@@ -1,7 +1,8 @@
-// The expression: the judging call, and the table of its values at all covers. A reader's answer is opened by `let .. else`: the specification names this form.
+// The expression: the judging call, and the table of its values at all covers.
+// A rule of the project: the specification, under "The form each place takes", has a reader's answer opened by `let .. else`, so there is no `?` and no `match` at one.
 #![tactic(auto)]
 
-ghost use Rattle.std.specs.Prelude.{◌≡◌, true, false, ◌+◌, ◌^◌, ◌≤◌, ◌<◌};
+ghost use Rattle.std.specs.Prelude.{◌≡◌, true, false, ◌+◌, ◌^◌, ◌<◌};
 ghost use Rattle.meaning.specs.Expression.{often, Deep, Judged};
 ghost use Rattle.expression_laws.specs.Cover.{cover_of, Entry, Table};
 ghost use Rattle.expression_laws.specs.Doubling.{Filled};
@@ -22,10 +23,11 @@ const LAYERS: u8 = Scanline::LAYERS as u8;
 // The covers: each layer covers or not.
 pub const COVERS: usize = 1 << Scanline::LAYERS;
 
-// Has some beginning over 16 more `(` than `)`? Both are counted from zero, so that an early `)` stays counted.
+// Has some beginning over 16 more `(` than `)`?
 fn too_deep(text: &[u8]) -> bool
     ensures { (result ≡ true → Deep text.now) × (result ≡ false → Deep text.now → ⊥) }
 {
+    // Both are counted from zero, so that an early `)` stays counted.
     let mut opens: usize = 0;
     let mut closes: usize = 0;
     for b in text {
@@ -42,10 +44,7 @@ fn too_deep(text: &[u8]) -> bool
 pub fn judge(text: &[u8]) -> Result<(), Refusal>
     ensures { Judged text.now (verdict result) }
 {
-    if text.len() == 0 {
-        return Err(Refusal::ExpressionLength);
-    }
-    if LONGEST < text.len() {
+    if !(1..=LONGEST).contains(&text.len()) {
         return Err(Refusal::ExpressionLength);
     }
     if too_deep(text) {
@@ -79,28 +78,21 @@ fn stands(text: &[u8], b: u8) -> bool
     text.contains(&b)
 }
 
-// The entry at the cover handed: read, or the one that is known. The flag is the same for all entries of a layer, and a closure in its place would hide which of the two it is.
-fn entry(text: &[u8], handed: readers::Handed, read: bool, known: bool) -> bool
-    requires { read ≡ false → Entry text.now (cover_of handed) known }
-    ensures { Entry text.now (cover_of handed) result }
+// One layer more: the covers without it, which come before, have their entries, and those with it get theirs. Where its letter does
+// not stand in the text, an entry with the layer is the one without it, and nothing is read. A layer is a number below 8: see `strips::turned`.
+fn add_layer(text: &[u8], truth: &mut [bool; COVERS], layer: u8)
+    requires { (layer < 8) × Filled text.now (2 ^ layer) truth.old }
+    ensures { Filled text.now (2 ^ (layer + 1)) truth.new }
 {
-    if read {
-        return value(text, handed);
-    }
-    known
-}
-
-// One layer more, which counts half: the covers below half have their entries, and those with the layer get theirs. Where its letter does
-// not stand in the text, an entry with the layer is the one without it, and nothing is read.
-fn add_layer(text: &[u8], truth: &mut [bool; COVERS], layer: u8, half: usize)
-    requires { (layer < 8) × (half ≡ 2 ^ layer) × Filled text.now half truth.old }
-    ensures { Filled text.now (half + half) truth.new }
-{
+    let half = 1 << layer;
     let read = stands(text, b'a' + layer);
     for m in half..half + half {
-        let known = truth[m - half];
-        let v = entry(text, m as u8, read, known);
-        truth[m] = v;
+        // The cast stays: m is below 256, and `u8::try_from` would answer a refusal that cannot come.
+        truth[m] = if read {
+            value(text, m as u8)
+        } else {
+            truth[m - half]
+        };
     }
 }
 
@@ -110,12 +102,9 @@ pub fn table(text: &[u8]) -> [bool; COVERS]
     ensures { Table text.now result }
 {
     let mut truth = [false; COVERS];
-    let v = value(text, 0);
-    truth[0] = v;
-    let mut half: usize = 1;
+    truth[0] = value(text, 0);
     for layer in 0..LAYERS {
-        add_layer(text, &mut truth, layer, half);
-        half += half;
+        add_layer(text, &mut truth, layer);
     }
     truth
 }

@@ -24,7 +24,7 @@ pub fn rank_from(w: u64) -> usize
     (w / 8192 % 8192) as usize
 }
 
-// The same sum as `words::place`, of a word of another make.
+// One function with `words::place`, which has the same sum, would be no plainer: the words are of two makes, and one name for both would tell of neither.
 pub fn rank_to(w: u64) -> usize
     ensures { (result ≡ to_of w) × (result < 8192) }
 {

@@ -1,5 +1,6 @@
 -- Laws of edges in steps. Assumes nothing.
 --
+--   twice, twice_one         the places of a pair, one pair on
 --   xs_long, xs_pairs        an edge has two ends: end k + k is the from of edge k, and end k + k + 1 its to
 --   EndsOf es xs k           so with the first k edges of es
 --   pairs_xs, ends_at        and such a list is that of the ends; of edges in steps
@@ -24,10 +25,10 @@ use Rattle.lifting.specs.InSteps.{InSteps, no_edge}
 
 -- ---- two ends an edge
 
-twice : (j : ℕ) → suc (suc (j + j)) ≡ suc j + suc j
+pub twice : (j : ℕ) → suc (suc (j + j)) ≡ suc j + suc j
 twice j = omega arith
 
-twice_one : (j : ℕ) → suc (suc (j + j + 1)) ≡ suc j + suc j + 1
+pub twice_one : (j : ℕ) → suc (suc (j + j + 1)) ≡ suc j + suc j + 1
 twice_one j = omega arith
 
 pub xs_long : (es : List (Edge ℕ)) → length (xs_of es) ≡ length es + length es

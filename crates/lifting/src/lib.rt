@@ -9,7 +9,10 @@ ghost use Rattle.lifting.specs.InSteps.{InSteps};
 
 use edge::Record;
 
-// The layer and the y of each edge, and its from and its to side by side in xs: columns, and no list of edges, since sorting and sweep go along one of them, in vector code.
+// The layer and the y of each edge, and its from and its to side by side in xs.
+//
+// Three columns, and no list of edges, which is no plainer: `axis` takes the ys, and the xs, as a slice of keys, so a list would be copied into such slices again. The layers are
+// read later, each at the place of a word: one byte an edge, and eight if each stood beside its y.
 pub fn lift(edges: &[i32], layers: &mut [u8], ys: &mut [u32], xs: &mut [u32])
     requires sound_list { SoundList 7 limit edges.now }
     requires layers_len { (length layers.old ≡ length edges.now / 4) × (length ys.old ≡ length edges.now / 4) × (length xs.old ≡ length edges.now / 4 + length edges.now / 4) }

@@ -11,16 +11,11 @@ use Rattle.meaning.specs.Numbers.{bit}
 use Rattle.meaning.specs.Edges.{covers}
 use Rattle.strips.specs.Rows.{row_at, layer_fits}
 use Rattle.strips.specs.Cover.{turned_to, Passed}
+use Rattle.strips.specs.PassLaws.{pass_start, pass_here}
 use Rattle.strips.specs.Strips.{taken_over, Taken, TakeOk}
 use Rattle.marks.specs.Marks.{run_to, SumOk, SummedTo}
 
 -- ---- passes
-
-pass_start : (f : ℕ → ℕ) (a : ℕ) (xs : List ℕ) → Passed 0 f a a xs xs
-pass_start f a xs = record { long = refl; made = λ r g h. let z : ⊥ = omega arith in absurd z; same = λ r _. refl }
-
-pass_here : (f : ℕ → ℕ) (a r : ℕ) (xs₀ xs : List ℕ) → Passed 0 f a r xs₀ xs → get_or xs r 0 ≡ get_or xs₀ r 0
-pass_here f a r xs₀ xs P = P.same r (λ _ u. let z : ⊥ = omega arith in absurd z)
 
 pass_on : (f g : ℕ → ℕ) (a r r' : ℕ) (xs₀ xs xs' : List ℕ) → Passed 0 f a r xs₀ xs → Passed 0 g r r' xs xs' → a ≤ r → r' ≡ r + 1 → g r ≡ f r → Passed 0 f a r' xs₀ xs'
 pass_on f g a r r' xs₀ xs xs' P Q h w e = record {

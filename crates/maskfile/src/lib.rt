@@ -29,34 +29,23 @@ fn moved(p: u64, n: u64) -> u64
     if n % 2 == 0 {
         return p + d;
     }
-    if d <= p {
-        return p - d;
-    }
-    0
+    p.saturating_sub(d)
 }
 
-// The due number that is stored as n: the way back of `maskwriter::stored`. One function for both would take the way as a parameter, and say less.
+// The due number that is stored as n.
 #[tactic(auto, unfolding(crate::specs::Due::value_of))]
 fn value_of(s: State, n: u64) -> u64
     requires { (Sane s) × (n < most five) }
     ensures { result ≡ value_of s n }
 {
-    match s.due {
-        Due::Layer => n,
-        Due::Count => n,
-        Due::X => moved(s.px, n),
-        Due::Y => moved(s.py, n),
-    }
+    s.before().map_or(n, |p| moved(p, n))
 }
 
 // Is the stored number n, which is due, minus zero?
 fn minus_zero(due: Due, n: u64) -> bool
     ensures { result ≡ minus_zero due n }
 {
-    if n == MINUS_ZERO {
-        return rings::is_coordinate(due);
-    }
-    false
+    n == MINUS_ZERO && rings::is_coordinate(due)
 }
 
 // The due number at `at`.
@@ -64,7 +53,7 @@ fn due_at(file: &[u8], at: usize, s: State) -> Result<Number, Refusal>
     requires { Sane s }
     ensures { result ≡ due_in_file (length file.now) s at (front five (drop at file.now)) }
 {
-    // The specification names this form: a refusal is handed straight on.
+    // A rule of the project: the specification names this form, a refusal handed straight on.
     let number = numbers::number_at(file, at, numbers::GROUPS);
     let Ok(stored) = number else {
         return number;
@@ -86,8 +75,9 @@ fn lifted(due: Due, v: u64) -> u64
     v + rings::HALF
 }
 
-// Reads the rings, which begin at `from`, and writes their numbers as far as there is room: the value is how many they are. It is no walk of
-// `ringwalk`, whose list has a number at each place: here a number has one to five bytes.
+// Reads the rings, which begin at `from`, and writes their numbers as far as there is room: the value is how many they are.
+//
+// No plainer as a walk of `ringwalk`, or as a `for`: there a number stands at each place, and here it has one to five bytes, so that the next place is what the reader answers.
 fn rings_from(file: &[u8], out: &mut [i32], from: usize) -> Result<Number, Refusal>
     requires { (from ≡ length (spelt five 1)) × ((file.now ≡ spelt five 1 ++ drop from file.now) × (from ≤ length file.now)) }
     ensures { RingsOutcome file.now out.old result out.new }
@@ -96,6 +86,7 @@ fn rings_from(file: &[u8], out: &mut [i32], from: usize) -> Result<Number, Refus
     let mut at = from;
     let mut n: usize = 0;
     while at < file.len() {
+        // A rule of the project: the specification names this form, a refusal handed straight on.
         let number = due_at(file, at, s);
         let Ok(due) = number else {
             return number;
@@ -118,6 +109,7 @@ fn rings_from(file: &[u8], out: &mut [i32], from: usize) -> Result<Number, Refus
 fn list_from(file: &[u8], out: &mut [i32]) -> Result<Number, Refusal>
     ensures { FileOutcome file.now out.old result out.new }
 {
+    // A rule of the project: the specification names this form, a refusal handed straight on.
     let edition = numbers::number_at(file, 0, numbers::GROUPS);
     let Ok(number) = edition else {
         return edition;
@@ -135,8 +127,9 @@ pub fn read(file: &[u8], rings: &mut [i32]) -> Result<u64, Refusal>
     if LONGEST < file.len() {
         return Err(Refusal::FileTooLong);
     }
-    let mut none = [0i32; 1];
-    numbers::settled(list_from(file, &mut none), rings.len())?;
+    // No plainer: one function for these three lines and those of `ringwalk::make` would take a closure, and its clause would have to tell what each of two calls of it answers and
+    // leaves in a buffer.
+    numbers::settled(list_from(file, &mut []), rings.len())?;
     let written = list_from(file, rings)?;
     Ok(written.value)
 }

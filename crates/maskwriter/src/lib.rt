@@ -6,12 +6,13 @@ ghost use Rattle.meaning.specs.Numbers.{limit};
 ghost use Rattle.meaning.specs.MaskFile.{spelt, five, bytes_of};
 ghost use Rattle.meaning.specs.Faults.{Begins, FileSpells, Written};
 ghost use Rattle.answers.specs.Told.{told};
-ghost use Rattle.rings.specs.State.{greatest, Sane};
+ghost use Rattle.rings.specs.State.{greatest};
+ghost use Rattle.ringwalk.specs.Made.{Follows};
 ghost use Rattle.maskwriter.specs.Stored.{difference, stored_of};
 ghost use Rattle.maskwriter.specs.Filed.{file_laws};
 
 use answers::Refusal;
-use rings::{Due, State};
+use rings::State;
 use ringwalk::Made;
 
 // The stored difference of v from p.
@@ -28,15 +29,10 @@ fn difference(p: u64, v: u64) -> u64
 // The due number v, as a file stores it.
 #[tactic(auto, unfolding(crate::specs::Stored::stored_of))]
 fn stored(s: State, v: u64) -> u64
-    requires { (Sane s) × (v ≤ greatest) }
+    requires { Follows s v }
     ensures { result ≡ stored_of s v }
 {
-    match s.due {
-        Due::Layer => v,
-        Due::Count => v,
-        Due::X => difference(s.px, v),
-        Due::Y => difference(s.py, v),
-    }
+    s.before().map_or(v, |p| difference(p, v))
 }
 
 // The bytes of a mask file, as what is made of a ring list.
@@ -62,12 +58,10 @@ impl Made for File {
     }
 }
 
-// The mask file of a ring list: how many bytes were written, or the refusal. Three lines that `ringedges::edges_of` has too: the edits `room_of_the_list` and `accepts_none` stand in both.
+// The mask file of a ring list: how many bytes were written, or the refusal.
+#[tactic(auto, unfolding(meaning::specs::Faults::Written))]
 pub fn write(rings: &[i32], file: &mut [u8]) -> Result<u64, Refusal>
     ensures { Written rings.now file.old (told result, file.new) }
 {
-    let mut none = [0u8; 1];
-    numbers::settled(ringwalk::walk::<File>(rings, &mut none), file.len())?;
-    let written = ringwalk::walk::<File>(rings, file)?;
-    Ok(written.value)
+    ringwalk::make::<File>(rings, file)
 }

@@ -43,17 +43,17 @@ fn number_from(file: &[u8], start: usize, at: usize, groups: u64) -> Result<Numb
     if groups == 0 {
         return Err(Refusal::BadNumber(start));
     }
-    if file.len() <= at {
+    let Some(byte) = file.get(at) else {
         return Err(Refusal::EndsInside(file.len()));
-    }
-    let b = u64::from(file[at]);
+    };
+    let b = u64::from(*byte);
     if b < 128 {
         return Ok(Number {
             value: b,
             next: at + 1,
         });
     }
-    // The specification names this form: a refusal is handed straight on.
+    // A rule of the project: the specification names this form, a refusal handed straight on.
     let rest = number_from(file, start, at + 1, groups - 1);
     let Ok(read) = rest else {
         return rest;
@@ -75,13 +75,15 @@ pub fn number_at(file: &[u8], at: usize, groups: u64) -> Result<Number, Refusal>
     number_from(file, at, at, groups)
 }
 
-// Writes a byte, where there is room for it. The buffer is the caller's, here and wherever a place stands beside one in the mask files: there is no heap, and a place may lie past
-// the end, where nothing is written and all the same is counted.
-fn put_byte(out: &mut [u8], at: usize, b: u8)
-    ensures { out.new ≡ set out.old at b }
+// Writes x at `at`, where there is room for it.
+//
+// A rule of the project, here and wherever a place stands beside a buffer in the mask files: there is no heap, so the buffer is the caller's, and the place may lie past its end,
+// where nothing is written and all the same is counted. It is no `get_mut`, of which a proof knows the length alone.
+pub fn put<T: Copy>(out: &mut [T], at: usize, x: T)
+    ensures { out.new ≡ set out.old at x }
 {
     if at < out.len() {
-        out[at] = b;
+        out[at] = x;
     }
 }
 
@@ -91,9 +93,9 @@ pub fn put_number(out: &mut [u8], at: usize, v: u64, groups: u64) -> usize
     ensures { (result ≡ at + length (spelt groups v)) × (out.new ≡ sets out.old at (spelt groups v)) }
 {
     if v < 128 {
-        put_byte(out, at, v as u8);
+        put(out, at, v as u8);
         return at + 1;
     }
-    put_byte(out, at, (v % 128 + 128) as u8);
+    put(out, at, (v % 128 + 128) as u8);
     put_number(out, at + 1, v / 128, groups - 1)
 }

@@ -1,12 +1,14 @@
--- What `number`, `signed` and `word` have written: the first digit, one digit more, a sign, and one byte more. Assumes nothing.
+-- What `number`, `signed` and `word` have written: the decimal text, a sign, and one byte more. Assumes nothing.
 use mathlib.Core.Path.{◌≡◌, refl, sym, ap, ◌∙◌}
 use mathlib.Core.Bool.{true, false, true≢false}
 use mathlib.Core.List.{List, [], ◌∷◌, ◌++◌}
-use Prim.Native.Nat.{ℕ, ◌+◌, ◌/◌, ◌%◌, ◌≤◌, ◌<◌}
+use Prim.Native.Nat.{ℕ, zero, suc, ◌+◌, ◌/◌, ◌%◌, ◌^◌, ◌≤◌, ◌<◌}
+use Rattle.std.specs.Fmt.{decimal as fmt_decimal}
+use Rattle.std.proofs.lemmas.Fmt.{decimal_digit, decimal_step}
+use Rattle.std.proofs.Math.Decide.{dec_lt}
 use native.Mathlib.Omega.{arith}
-use native.Mathlib.Numerals.{add-one}
 use lib.ListN.{length, take, get_or}
-use lib.Seq.{take-suc}
+use Rattle.std.proofs.lemmas.List.{take_more}
 use mir.Syntax.{w32}
 use mir.Val.{SFits, to_z, of_z}
 use mir.Facts.{to_z-of_z}
@@ -15,13 +17,23 @@ use lib.Signed.{lt_z}
 use borrow.Author.Tests.{ltb-true}
 use Rattle.meaning.specs.Printed.{decimal, signed_text}
 use Rattle.printed_laws.specs.Decimals.{decimal_small, decimal_large}
-use Rattle.printed_laws.specs.Stores.{Written, and_then, as_text}
+use Rattle.numerals.specs.declared.Writer.{Writer}
+use Rattle.numerals.specs.Stored.{Stored, stored_then, stored_as}
 
-pub first_digit : {l m : List ℕ} {i j : ℕ} (n : ℕ) → n < 10 → Written l i ((48 + n) ∷ []) m j → Written l i (decimal n) m j
-first_digit n h p = as_text (sym (decimal_small n h)) p
+-- ---- the library's decimal text is document 01's
 
-pub last_digit : {l m k : List ℕ} {i j e : ℕ} (n : ℕ) → 10 ≤ n → Written l i (decimal (n / 10)) m j → Written m j ((48 + n % 10) ∷ []) k e → Written l i (decimal n) k e
-last_digit n h p q = as_text (sym (decimal_large n h)) (and_then p q)
+pub same_text : (n : ℕ) → n < 2 ^ 64 → fmt_decimal n ≡ decimal n
+same_text n h = go (suc n) n (omega arith) h
+  where
+    go : (f n : ℕ) → n < f → n < 2 ^ 64 → fmt_decimal n ≡ decimal n
+    go zero n h s = absurd (omega arith)
+    go (suc f) n h s = by_size (dec_lt n 10) (go f (n / 10))
+      where
+        by_size : Dec (n < 10) → (n / 10 < f → n / 10 < 2 ^ 64 → fmt_decimal (n / 10) ≡ decimal (n / 10)) → fmt_decimal n ≡ decimal n
+        by_size (yes p) before = decimal_digit n p ∙ sym (decimal_small n p)
+        by_size (no p) before =
+            let l : 10 ≤ n = omega arith in
+            decimal_step n l s ∙ ap (λ (t : List ℕ). t ++ ((48 + n % 10) ∷ [])) (before (omega arith) (omega arith)) ∙ sym (decimal_large n l)
 
 -- ---- the text of a signed number, by its size
 
@@ -45,5 +57,5 @@ module _ (z : ℤ) (fits : SFits w32 z) {m : ℕ} (size : m ≡ nat_abs (to_z w3
 
 -- ---- a word, byte by byte
 
-pub next_byte : {l m k : List ℕ} {i j e : ℕ} (w : List ℕ) (n : ℕ) → n < length w → Written l i (take n w) m j → Written m j (get_or w n 0 ∷ []) k e → Written l i (take (n + 1) w) k e
-next_byte w n h p q = as_text (sym (rw add-one (take-suc w n 0 h))) (and_then p q)
+pub next_byte : {a b c : Writer} (w : List ℕ) (n : ℕ) → n < length w → Stored a (take n w) b → Stored b (get_or w n 0 ∷ []) c → Stored a (take (n + 1) w) c
+next_byte w n h p q = stored_as (sym (take_more w n 0 h)) (stored_then p q)

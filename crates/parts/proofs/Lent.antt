@@ -5,11 +5,7 @@ use Prim.Native.Nat.{ℕ, ◌-◌, ◌≤◌}
 use native.Mathlib.Omega.{arith}
 use lib.IntN.{ℤ}
 use lib.ListN.{length, take, drop, length-drop, drop_of_length-le}
-use lib.Seq.{take_all}
 use borrow.Rule.Slice.PartMut.{put_mid}
-
-pub lent_is : (out : List ℤ) (s : ℕ) → take (length out - s) (drop s out) ≡ drop s out
-lent_is out s = take_all (length out - s) (drop s out) (omega (arith, length-drop s out))
 
 pub put_is : (out ys : List ℤ) (s : ℕ) → put_mid s (length out - s) out ys ≡ take s out ++ ys
 put_is out ys s =

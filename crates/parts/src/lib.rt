@@ -4,16 +4,21 @@
 ghost use Rattle.std.specs.Prelude.{◌≡◌};
 ghost use Rattle.parts.specs.Parted.{LevelsOk, levelled, PartOk, Parted};
 
+use records::Record;
+
 // The horizontals of a part, as records from number n on.
 fn put_levels(ws: &[u64], vx: &[u32], n: usize, out: &mut [i32])
     requires { LevelsOk ws.now vx.now n }
     ensures { out.new ≡ levelled vx.now ws.now n out.old }
 {
     for (i, w) in ws.iter().enumerate() {
-        let y = horizontal::height(*w);
-        let f = horizontal::rank_from(*w);
-        let t = horizontal::rank_to(*w);
-        records::put(out, n + i, 0, y, vx[f], vx[t]);
+        let level = Record {
+            kind: 0,
+            place: horizontal::height(*w),
+            from: vx[horizontal::rank_from(*w)],
+            to: vx[horizontal::rank_to(*w)],
+        };
+        records::put(out, n + i, level);
     }
 }
 

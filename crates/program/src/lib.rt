@@ -6,7 +6,7 @@ ghost use Rattle.meaning.specs.Program.{Prints};
 ghost use Rattle.program.specs.Parts.{OfEdges, OfFile};
 ghost use Rattle.program.specs.Answered.{Answered, Answers};
 
-use answers::Refusal;
+use answers::{Answer, Refusal};
 
 // The most bytes of an input.
 const LONGEST: usize = 65536;
@@ -65,6 +65,6 @@ pub fn answer(input: &[u8], output: &mut [u8; OUTPUT]) -> usize
 {
     match answer_input(input, output) {
         Ok(bytes) => bytes,
-        Err(refusal) => printed::refused(output, refusal.number(), refusal.value()),
+        Err(refusal) => printed::refused(output, Answer::from(Err(refusal))),
     }
 }

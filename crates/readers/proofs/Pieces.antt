@@ -1,7 +1,7 @@
 -- The readers' answers are those of the reader as a function: a law for each way in which they answer. Assumes nothing.
 --
 --   moved              what was read ends after its start
---   at_end, not_refused, not_got, open_refused, open_ended, open_closed, open_left, leaf    a factor
+--   at_end, not_refused, not_got, open_refused, open_closed, open_left, leaf    a factor
 --   Going              a chain has come to a value at a place
 --   first_refused, starts, stops, ends, breaks, goes_on    a product or a sum
 --   whole_refused, whole_short, whole_got                  a whole text
@@ -13,7 +13,7 @@ use mathlib.Core.List.{List}
 use Prim.Native.Nat.{ℕ, ◌+◌, ◌≤◌, ◌<◌}
 use Prim.Native.Char.{code}
 use native.Mathlib.Omega.{arith}
-use lib.ListN.{length, get_or, get_or-eq_default}
+use lib.ListN.{length, get_or}
 use borrow.Author.Tests.{ne_eqb}
 use Rattle.meaning.specs.Expression.{joins as joined_value, Expr, negated, joined, Handed, eval}
 use Rattle.expression_laws.specs.Reader.{Read, got, refused, operator_of, Part, a_factor, a_sum, letter_at, reads}
@@ -73,10 +73,6 @@ module _ (h : Handed) (s : List ℕ) where
       → None ≡ reads_as h s a_factor at
   open_left at {i = i} b e r c =
       let (f, k, q) = got_at a_sum (at + 1) e r in answers a_factor at {x = refused} (Steps.at_open s at b ∙ simp (k, ne_eqb (get_or s i 0) (code ")") c))
-
-  pub open_ended : (at : ℕ) {x : Piece} {v : Bool} {i : ℕ} → get_or s at 0 ≡ code "(" → x ≡ reads_as h s a_sum (at + 1) → x ≡ Some (v, i) → length s ≤ i
-      → None ≡ reads_as h s a_factor at
-  open_ended at b e r l = let z = get_or-eq_default s 0 l in open_left at b e r (λ c. omega arith)
 
   pub leaf : (at : ℕ) {x : Piece} → (get_or s at 0 ≡ code "!" → ⊥) → (get_or s at 0 ≡ code "(" → ⊥) → x ≡ piece_of h (letter_at s at) → x ≡ reads_as h s a_factor at
   leaf at n o e = e ∙ answers a_factor at (Steps.at_leaf s at n o)

@@ -1,5 +1,5 @@
 // The readers of an expression: a sum is made of products, a product of factors, and a factor may hold a sum in parentheses again.
-// Each answer is opened by `let .. else`, and its refusal handed straight on: the specification names this form.
+// A rule of the project: the specification, under "The form each place takes", has each answer opened by `let .. else`, with the refusal handed straight on, so there is no `?`.
 #![tactic(auto)]
 
 ghost use Rattle.std.specs.Prelude.{◌≡◌};
@@ -15,6 +15,7 @@ pub type Handed = u8;
 pub type Piece = Option<(bool, usize)>;
 
 // Does the layer of a letter cover?
+#[tactic(auto, unfolding(basic_laws::specs::Bits::bit_at))]
 fn covered(handed: Handed, letter: u8) -> bool
     requires { IsLetter letter }
     ensures { result ≡ cover_of handed (layer_of letter) }
@@ -23,38 +24,30 @@ fn covered(handed: Handed, letter: u8) -> bool
 }
 
 // Reads a letter.
+#[tactic(auto, using(std::proofs::lemmas::Bool::Decides::nat_tests, std::proofs::lemmas::Option::gets), unfolding(expression_laws::specs::Reader::letter_at, meaning::specs::Expression::eval))]
 fn letter(text: &[u8], at: usize, handed: Handed) -> Piece
     ensures { result ≡ piece_of (cover_of handed) (letter_at text.now at) }
 {
-    if text.len() <= at {
+    let Some(&b) = text.get(at) else {
+        return None;
+    };
+    if !(b'a'..=b'h').contains(&b) {
         return None;
     }
-    let b = text[at];
-    if b < b'a' {
-        return None;
-    }
-    if b'h' < b {
-        return None;
-    }
-    let v = covered(handed, b);
-    let next = at + 1;
-    Some((v, next))
+    Some((covered(handed, b), at + 1))
 }
 
-// The value of the operator whose byte is op: the flags are its two operands.
+// What the operator whose byte is op makes of its two operands.
+//
+// No plainer with an enum of the operators: op is the byte that stands in the text, and an enum would be made of it by the same match.
 fn combined(op: u8, v: bool, w: bool) -> bool
     ensures { result ≡ joins (operator_of op) v w }
 {
-    if op == b'*' {
-        if v { w } else { false }
-    } else if op == b'-' {
-        if v { !w } else { false }
-    } else if op == b'+' {
-        if v { true } else { w }
-    } else if v {
-        !w
-    } else {
-        w
+    match op {
+        b'*' => v && w,
+        b'-' => v && !w,
+        b'+' => v || w,
+        _ => v != w,
     }
 }
 
@@ -62,14 +55,14 @@ fn combined(op: u8, v: bool, w: bool) -> bool
 fn is_tight(op: u8) -> bool
     ensures { result ≡ tight op }
 {
-    if op == b'*' { true } else { op == b'-' }
+    op == b'*' || op == b'-'
 }
 
 // Is op an operator of a sum?
 fn is_loose(op: u8) -> bool
     ensures { result ≡ loose op }
 {
-    if op == b'+' { true } else { op == b'^' }
+    op == b'+' || op == b'^'
 }
 
 // Reads a factor: `!` before a factor, a sum in parentheses, or a letter.
@@ -77,10 +70,9 @@ fn is_loose(op: u8) -> bool
 fn factor(text: &[u8], at: usize, handed: Handed) -> Piece
     ensures { result ≡ reads_as (cover_of handed) text.now a_factor at }
 {
-    if text.len() <= at {
+    let Some(&b) = text.get(at) else {
         return None;
-    }
-    let b = text[at];
+    };
     if b == b'!' {
         let r = factor(text, at + 1, handed);
         let Some((v, next)) = r else {
@@ -93,19 +85,15 @@ fn factor(text: &[u8], at: usize, handed: Handed) -> Piece
         let Some((v, next)) = r else {
             return r;
         };
-        if text.len() <= next {
+        let Some(b')') = text.get(next) else {
             return None;
-        }
-        if text[next] == b')' {
-            let after = next + 1;
-            return Some((v, after));
-        }
-        return None;
+        };
+        return Some((v, next + 1));
     }
     letter(text, at, handed)
 }
 
-// `product` and `sum` stay two functions: the specification asks for readers of a sum, a product and a factor that call each other.
+// `product` and `sum` stay two functions. A rule of the project: the specification, under "The form each place takes", names readers of a sum, a product and a factor that call each other.
 
 // Reads a product: factors, with `*` and `-` between them, from left to right.
 #[cycle(factor_product_sum)]
@@ -118,8 +106,7 @@ fn product(text: &[u8], at: usize, handed: Handed) -> Piece
     };
     let mut v = lead;
     let mut i = after;
-    while i < text.len() {
-        let op = text[i];
+    while let Some(&op) = text.get(i) {
         if !is_tight(op) {
             return Some((v, i));
         }
@@ -144,8 +131,7 @@ fn sum(text: &[u8], at: usize, handed: Handed) -> Piece
     };
     let mut v = lead;
     let mut i = after;
-    while i < text.len() {
-        let op = text[i];
+    while let Some(&op) = text.get(i) {
         if !is_loose(op) {
             return Some((v, i));
         }

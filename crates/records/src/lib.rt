@@ -4,7 +4,7 @@
 ghost use Rattle.std.specs.Prelude.{◌≡◌, ◌≤◌};
 ghost use Rattle.meaning.specs.Numbers.{limit, step};
 ghost use Rattle.meaning.specs.Records.{rec};
-ghost use Rattle.records.specs.Put.{store_at, put_at, RecordOk};
+ghost use Rattle.records.specs.Put.{put_at, RecordOk};
 
 use scanline::Scanline;
 
@@ -16,27 +16,27 @@ pub fn coordinate(u: u32) -> i32
     (i64::from(u) - i64::from(Scanline::LIMIT)) as i32
 }
 
-// Record number n, if there is room for it. The buffer is the caller's, here and in `verticals` and `parts`: there is no heap, so none is made, and the number says where the record goes.
-fn store(out: &mut [i32], n: usize, kind: i32, place: i32, from: i32, to: i32)
-    ensures { out.new ≡ store_at out.old n kind place from to }
+// A record in steps: its place and its ends are counted from the least coordinate.
+// The kind is no enum. What may not change is what `put` takes: `RecordOk` is met by every u32 that is 0 or 1, and `parts::put_levels` hands 0.
+#[derive(Clone, Copy)]
+pub struct Record {
+    pub kind: u32,
+    pub place: u32,
+    pub from: u32,
+    pub to: u32,
+}
+
+// Record number n, if there is room for it: its four numbers.
+// A rule of the project: there is no heap, so the buffer is the caller's, here and in `verticals` and `parts`, and the number n says where the record goes.
+pub fn put(out: &mut [i32], n: usize, given: Record)
+    requires { RecordOk given.kind given.place given.from given.to }
+    ensures { out.new ≡ put_at out.old n (rec given.kind given.place given.from given.to) }
 {
     if n < out.len() / 4 {
         let at = n * 4;
-        out[at] = kind;
-        out[at + 1] = place;
-        out[at + 2] = from;
-        out[at + 3] = to;
+        out[at] = given.kind as i32;
+        out[at + 1] = coordinate(given.place);
+        out[at + 2] = coordinate(given.from);
+        out[at + 3] = coordinate(given.to);
     }
-}
-
-// The same, with coordinates in steps.
-pub fn put(out: &mut [i32], n: usize, kind: u32, place: u32, from: u32, to: u32)
-    requires { RecordOk kind place from to }
-    ensures { out.new ≡ put_at out.old n (rec kind place from to) }
-{
-    let k = kind as i32;
-    let p = coordinate(place);
-    let f = coordinate(from);
-    let t = coordinate(to);
-    store(out, n, k, p, f, t);
 }

@@ -6,9 +6,11 @@
 --   placed f at        that fault at a place
 --   next_of s v        what is known after it
 --   judged_as ..       the due number as a reader answers it
+--   before_of s        the coordinate of the pair before, where a coordinate is due
 --   due_in_list ..      the due number of a ring list, which stands 2^31 above itself
---   Sane s            the bounds that every state reached has
-use Rattle.std.specs.Prelude.{Bool, true, false, ℕ, ◌+◌, ◌-◌, ◌≤◌, ltb, eqb, Option, Some, None, Result, Ok, Err}
+--   Sane s            the bounds that every state reached has; sane_before: so has the coordinate before
+use native.Mathlib.Omega.{arith}
+use Rattle.std.specs.Prelude.{◌≡◌, Bool, true, false, ℕ, ◌+◌, ◌-◌, ◌≤◌, ltb, eqb, Option, Some, None, Result, Ok, Err}
 use Rattle.meaning.specs.Numbers.{pick, limit}
 use Rattle.answers.specs.declared.Refusal.{Refusal}
 use Rattle.answers.specs.declared.Refusal.TheVariants.{RingOutOfRange, NeighboursEqual, TooManyPairs}
@@ -86,6 +88,15 @@ is_coordinate Count = false
 is_coordinate X = true
 is_coordinate Y = true
 
+abbrev pub before_by : Due → State → Option ℕ
+before_by Layer s = None
+before_by Count s = None
+before_by X s = Some s.px
+before_by Y s = Some s.py
+
+abbrev pub before_of : State → Option ℕ
+before_of s = before_by s.due s
+
 unfoldable pub due_in_list : ℕ → State → ℕ → ℕ → Reading
 due_in_list L s u i = pick (is_coordinate s.due) (judged_as L s u i (i + 1)) (pick (ltb u 2147483648) (Err (RingOutOfRange i)) (judged_as L s (u - 2147483648) i (i + 1)))
 
@@ -96,3 +107,9 @@ pub record Sane (s : State) : Type 0 where
   pub px : s.px ≤ greatest
   pub py : s.py ≤ greatest
   pub fx : s.fx ≤ greatest
+
+pub sane_before : (d : Due) (s : State) (p : ℕ) → Sane s → before_by d s ≡ Some p → p ≤ greatest
+sane_before Layer s p k e = absurd (cc)
+sane_before Count s p k e = absurd (cc)
+sane_before X s p k e = let i : s.px ≡ p = cc in omega (arith, k.px)
+sane_before Y s p k e = let i : s.py ≡ p = cc in omega (arith, k.py)

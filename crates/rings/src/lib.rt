@@ -4,7 +4,7 @@
 ghost use Rattle.std.specs.Prelude.{◌≡◌, ◌+◌, ◌<◌, None, pos, length, get_or, set};
 ghost use Rattle.basic_laws.specs.Signed.{key_of, unkey_of};
 ghost use Rattle.meaning.specs.Numbers.{limit};
-ghost use Rattle.rings.specs.State.{start, outside, meets, first_of, coordinate_fault, fault_of, placed, next_of, judged_as, may_end, is_coordinate, due_in_list};
+ghost use Rattle.rings.specs.State.{start, outside, meets, first_of, coordinate_fault, fault_of, placed, next_of, judged_as, may_end, is_coordinate, before_of, due_in_list};
 
 use answers::Refusal;
 use numbers::Number;
@@ -36,9 +36,11 @@ pub enum Due {
 
 // What is known between two numbers. `more` are the pairs of the ring after the one that is due or begun, `room` the pairs that other rings may
 // still have; `fresh` says that no pair of the ring is whole yet. (px, py) is the pair before and (fx, fy) the ring's first: coordinates stand 2^31
-// above themselves. It stays one struct: `next_of` and `Sane` (specs/State.antt) speak of every field whichever number is due, and `fresh` is no
-// Option of (fx, fy), whose x is known a number before its y. `Sane` is not its invariant, since `state_of` (reading_laws/specs/StateOf.antt) is a
-// State of every beginning, also of one that is out of bounds.
+// above themselves.
+//
+// What may not change: it is one struct, since `next_of` and `Sane` (specs/State.antt) speak of every field whichever number is due; and `Sane` is not its invariant, since
+// `state_of` (reading_laws/specs/StateOf.antt) is a State of every beginning, also of one that is out of bounds. No plainer: `fresh` as an Option of (fx, fy), whose x is known a
+// number before its y.
 #[derive(Clone, Copy, Debug, PartialEq, Eq)]
 pub struct State {
     pub due: Due,
@@ -80,55 +82,88 @@ pub fn begin() -> State
 fn outside(v: u64) -> bool
     ensures { result ≡ outside limit v }
 {
-    if v < LEAST {
-        return true;
-    }
-    GREATEST < v
+    !(LEAST..=GREATEST).contains(&v)
 }
 
-// Is a coordinate equal to that of a cyclic neighbour before it? `fresh`, here and below, is what is known of the ring, and no choice of the caller's.
-fn meets(fresh: bool, more: u64, v: u64, p: u64, f: u64) -> bool
-    ensures { result ≡ meets fresh more v p f }
-{
-    if fresh {
-        return false;
-    }
-    if v == p {
-        return true;
-    }
-    if more == 0 {
-        return v == f;
-    }
-    false
-}
-
-fn first_of(fresh: bool, v: u64, f: u64) -> u64
-    ensures { result ≡ first_of fresh v f }
-{
-    if fresh {
-        return v;
-    }
-    f
-}
-
-// The fault of the coordinate v, which stands at `at`.
-fn coordinate_fault(
+// What is known of a ring along one axis: the coordinate of the pair before and that of the first pair; `fresh` and `more` as of a State.
+#[derive(Clone, Copy)]
+struct Axis {
     fresh: bool,
     more: u64,
-    v: u64,
-    p: u64,
-    f: u64,
-    at: usize,
-) -> Result<(), Refusal>
-    ensures { result ≡ placed (coordinate_fault limit fresh more v p f) at }
-{
-    if outside(v) {
-        return Err(Refusal::RingOutOfRange(at));
+    before: u64,
+    first: u64,
+}
+
+impl Axis {
+    // Is v equal to the coordinate of a cyclic neighbour before it?
+    fn meets(self, v: u64) -> bool
+        ensures { result ≡ meets self.fresh self.more v self.before self.first }
+    {
+        !self.fresh && (v == self.before || self.more == 0 && v == self.first)
     }
-    if meets(fresh, more, v, p, f) {
-        return Err(Refusal::NeighboursEqual(at));
+
+    // The ring's first coordinate, once v is read.
+    fn first_of(self, v: u64) -> u64
+        ensures { result ≡ first_of self.fresh v self.first }
+    {
+        if self.fresh {
+            return v;
+        }
+        self.first
     }
-    Ok(())
+
+    // The fault of v, which stands at `at`.
+    fn fault(self, v: u64, at: usize) -> Result<(), Refusal>
+        ensures { result ≡ placed (coordinate_fault limit self.fresh self.more v self.before self.first) at }
+    {
+        if outside(v) {
+            return Err(Refusal::RingOutOfRange(at));
+        }
+        if self.meets(v) {
+            return Err(Refusal::NeighboursEqual(at));
+        }
+        Ok(())
+    }
+}
+
+impl State {
+    // The ring along an axis, on which the pair before and the first pair have these coordinates.
+    fn along(self, before: u64, first: u64) -> Axis
+        ensures { result ≡ record { fresh = self.fresh; more = self.more; before = before; first = first } }
+    {
+        Axis {
+            fresh: self.fresh,
+            more: self.more,
+            before,
+            first,
+        }
+    }
+
+    // Where a coordinate is due, that of the pair before.
+    pub fn before(self) -> Option<u64>
+        ensures { result ≡ before_of self }
+    {
+        match self.due {
+            Due::Layer => None,
+            Due::Count => None,
+            Due::X => Some(self.px),
+            Due::Y => Some(self.py),
+        }
+    }
+
+    // The ring along x.
+    fn x(self) -> Axis
+        ensures { result ≡ record { fresh = self.fresh; more = self.more; before = self.px; first = self.fx } }
+    {
+        self.along(self.px, self.fx)
+    }
+
+    // The ring along y.
+    fn y(self) -> Axis
+        ensures { result ≡ record { fresh = self.fresh; more = self.more; before = self.py; first = self.fy } }
+    {
+        self.along(self.py, self.fy)
+    }
 }
 
 // The fault of the due number v, which stands at `at`.
@@ -152,8 +187,8 @@ fn fault(s: State, v: u64, at: usize) -> Result<(), Refusal>
             }
             Ok(())
         }
-        Due::X => coordinate_fault(s.fresh, s.more, v, s.px, s.fx, at),
-        Due::Y => coordinate_fault(s.fresh, s.more, v, s.py, s.fy, at),
+        Due::X => s.x().fault(v, at),
+        Due::Y => s.y().fault(v, at),
     }
 }
 
@@ -163,39 +198,6 @@ pub fn judged(s: State, v: u64, at: usize, next: usize) -> Result<Number, Refusa
 {
     fault(s, v, at)?;
     Ok(Number { value: v, next })
-}
-
-#[tactic(auto, unfolding(crate::specs::State::next_of))]
-fn after_x(s: State, v: u64) -> State
-    requires { s.due ≡ Due.X }
-    ensures { result ≡ next_of s v }
-{
-    let fx = first_of(s.fresh, v, s.fx);
-    State {
-        due: Due::Y,
-        px: v,
-        fx,
-        ..s
-    }
-}
-
-#[tactic(auto, unfolding(crate::specs::State::next_of))]
-fn after_y(s: State, v: u64) -> State
-    requires { s.due ≡ Due.Y }
-    ensures { result ≡ next_of s v }
-{
-    if s.more == 0 {
-        return between(s.room);
-    }
-    let fy = first_of(s.fresh, v, s.fy);
-    State {
-        due: Due::X,
-        more: s.more - 1,
-        fresh: false,
-        py: v,
-        fy,
-        ..s
-    }
 }
 
 // What has been read after the due number v, which has no fault.
@@ -216,8 +218,25 @@ pub fn after(s: State, v: u64) -> State
             room: s.room - v,
             ..s
         },
-        Due::X => after_x(s, v),
-        Due::Y => after_y(s, v),
+        Due::X => State {
+            due: Due::Y,
+            px: v,
+            fx: s.x().first_of(v),
+            ..s
+        },
+        Due::Y => {
+            if s.more == 0 {
+                return between(s.room);
+            }
+            State {
+                due: Due::X,
+                more: s.more - 1,
+                fresh: false,
+                py: v,
+                fy: s.y().first_of(v),
+                ..s
+            }
+        }
     }
 }
 
@@ -225,12 +244,7 @@ pub fn after(s: State, v: u64) -> State
 pub fn may_end(due: Due) -> bool
     ensures { result ≡ may_end due }
 {
-    match due {
-        Due::Layer => true,
-        Due::Count => false,
-        Due::X => false,
-        Due::Y => false,
-    }
+    due == Due::Layer
 }
 
 // A number of a ring list, 2^31 above itself.
@@ -245,12 +259,7 @@ fn number(list: &[i32], i: usize) -> u32
 pub fn is_coordinate(due: Due) -> bool
     ensures { result ≡ is_coordinate due }
 {
-    match due {
-        Due::Layer => false,
-        Due::Count => false,
-        Due::X => true,
-        Due::Y => true,
-    }
+    matches!(due, Due::X | Due::Y)
 }
 
 // The due number of a ring list, which stands at i.
@@ -269,12 +278,12 @@ pub fn due_in(list: &[i32], i: usize, s: State) -> Result<Number, Refusal>
     judged(s, u - HALF, i, i + 1)
 }
 
-// Writes at n, where there is room for it, the number that stands 2^31 below k. It takes any u64 that fits: a narrower type would ask more.
+// Writes at n, where there is room for it, the number that stands 2^31 below k.
+//
+// What may not change: it takes any u64 that fits, and a narrower type would ask more of its callers. A place beside a buffer: see `numbers::put`.
 pub fn put(out: &mut [i32], n: usize, k: u64)
     requires { k < 4294967296 }
     ensures { out.new ≡ set out.old n (unkey_of k) }
 {
-    if n < out.len() {
-        out[n] = whole::unkey(k as u32);
-    }
+    numbers::put(out, n, whole::unkey(k as u32));
 }

@@ -4,7 +4,8 @@
 ghost use Rattle.std.specs.Prelude.{◌≡◌, ℕ, ◌+◌, ◌≤◌, List, length};
 ghost use Rattle.std.proofs.lemmas.List.Edits.{sets};
 ghost use Rattle.meaning.specs.Rings.{Ring};
-ghost use Rattle.meaning.specs.Faults.{Begun};
+ghost use Rattle.meaning.specs.Faults.{Begun, OfList};
+ghost use Rattle.answers.specs.Told.{told};
 ghost use Rattle.reading_laws.specs.Outcome.{ListOutcome};
 ghost use Rattle.rings.specs.declared.State.{State};
 ghost use Rattle.ringwalk.specs.Made.{Follows, Starts, MadeLaws};
@@ -14,6 +15,8 @@ use numbers::Number;
 use rings::State;
 
 // What is made of a ring list, number by number.
+//
+// A rule of the project: a place beside the buffer, see `numbers::put`.
 pub trait Made {
     type Item;
 
@@ -47,7 +50,7 @@ pub fn walk<M: Made>(list: &[i32], out: &mut [M::Item]) -> Result<Number, Refusa
     let mut s = rings::begin();
     let mut n = M::begin(out);
     for i in 0..list.len() {
-        // The specification names this form: a refusal is handed straight on.
+        // A rule of the project: the specification names this form, a refusal handed straight on.
         let number = rings::due_in(list, i, s);
         let Ok(due) = number else {
             return number;
@@ -62,4 +65,14 @@ pub fn walk<M: Made>(list: &[i32], out: &mut [M::Item]) -> Result<Number, Refusa
         });
     }
     Err(Refusal::EndsInside(list.len()))
+}
+
+// Writes what is made of a ring list: how many items were written, or the refusal. The walk with no room comes first, so that a refusal changes nothing.
+pub fn make<M: Made>(list: &[i32], out: &mut [M::Item]) -> Result<u64, Refusal>
+    ensures { OfList M.make list.now out.old (told result, out.new) }
+{
+    // No plainer as one function with `maskfile::read`: the line there says why.
+    numbers::settled(walk::<M>(list, &mut []), out.len())?;
+    let written = walk::<M>(list, out)?;
+    Ok(written.value)
 }

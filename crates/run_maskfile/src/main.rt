@@ -1,7 +1,7 @@
 // Reads, writes and makes edges of ring lists, and prints what each call answers.
 #![tactic(auto)]
 
-ghost use Rattle.std.specs.Prelude.{◌≤◌};
+ghost use Rattle.std.specs.Prelude.{◌≤◌, length};
 
 use answers::{Answer, Refusal};
 use console::Console;
@@ -30,59 +30,57 @@ fn numbers(out: &mut Console, list: &[i32]) -> fmt::Result {
     writeln!(out, "")
 }
 
-// What reading a file answers, and the list's numbers after it. This and the next two differ in the call and in what is printed: one function would take both as parameters.
-fn read(out: &mut Console, name: &str, file: &[u8], list: &mut [i32]) -> fmt::Result {
-    say(out, name, maskfile::read(file, list))?;
-    numbers(out, list)
-}
-
-// The edges of a list.
-fn edges(out: &mut Console, name: &str, list: &[i32], made: &mut [i32]) -> fmt::Result {
-    say(out, name, ringedges::edges_of(list, made))?;
-    numbers(out, made)
-}
-
-// The file of a list.
-fn write(out: &mut Console, name: &str, list: &[i32], made: &mut [u8]) -> fmt::Result {
-    say(out, name, maskwriter::write(list, made))?;
-    bytes(out, made)
-}
-
 // The worked example: its list, its edges, and its bytes again.
 fn worked(out: &mut Console) -> fmt::Result {
     let mut list = [0i32; 12];
     let file = [1u8, 0, 2, 20, 0, 21, 10, 1, 2, 28, 4, 17, 12];
-    read(out, "read", &file, &mut list)?;
+    say(out, "read", maskfile::read(&file, &mut list))?;
+    numbers(out, &list)?;
     let mut made = [0i32; 16];
-    edges(out, "edges", &list, &mut made)?;
+    say(out, "edges", ringedges::edges_of(&list, &mut made))?;
+    numbers(out, &made)?;
     let mut back = [0u8; 13];
-    write(out, "write", &list, &mut back)
+    say(out, "write", maskwriter::write(&list, &mut back))?;
+    bytes(out, &back)
 }
 
 // Rooms that are one too short, and one too long.
 fn rooms(out: &mut Console) -> fmt::Result {
     let file = [1u8, 0, 2, 20, 0, 21, 10];
     let mut short = [7i32; 5];
-    read(out, "room for 5 numbers", &file, &mut short)?;
+    say(out, "room for 5 numbers", maskfile::read(&file, &mut short))?;
+    numbers(out, &short)?;
     let mut long = [7i32; 7];
-    read(out, "room for 7 numbers", &file, &mut long)?;
+    say(out, "room for 7 numbers", maskfile::read(&file, &mut long))?;
+    numbers(out, &long)?;
+    let list = &long[0..6];
     let mut made = [7i32; 7];
-    edges(out, "room for 7 numbers of edges", &long[0..6], &mut made)?;
+    say(
+        out,
+        "room for 7 numbers of edges",
+        ringedges::edges_of(list, &mut made),
+    )?;
+    numbers(out, &made)?;
     let mut back = [7u8; 6];
-    write(out, "room for 6 bytes", &long[0..6], &mut back)
+    say(out, "room for 6 bytes", maskwriter::write(list, &mut back))?;
+    bytes(out, &back)
 }
 
 // What reading a file with no room answers.
 fn judge(out: &mut Console, name: &str, file: &[u8]) -> fmt::Result {
-    let mut none = [0i32; 1];
-    say(out, name, maskfile::read(file, &mut none))
+    say(out, name, maskfile::read(file, &mut []))
 }
 
 // Example 8.
 fn stored(out: &mut Console) -> fmt::Result {
     let list = [0i32, 2, 100, 1073741824, -1, 0];
     let mut file = [0u8; 17];
-    write(out, "stored 100 and 2^30", &list, &mut file)
+    say(
+        out,
+        "stored 100 and 2^30",
+        maskwriter::write(&list, &mut file),
+    )?;
+    bytes(out, &file)
 }
 
 // Example 9.
@@ -110,29 +108,23 @@ fn malformed(out: &mut Console) -> fmt::Result {
     judge(out, "edition 2", &[0x02u8])
 }
 
-// Puts the pairs (i, i) at `at`, by the call that is tried here.
-fn pairs_at(list: &mut [i32], at: usize, pairs: usize)
-    requires { (at ≤ 20000) × (pairs ≤ 5000) }
+// Fills a list with one ring of layer 0, whose pairs are (0, 0), (1, 1) and so on, as many as there is room for.
+fn ring(list: &mut [i32])
+    requires { length list.old ≤ 10000 }
 {
-    for i in 0..pairs {
-        rings::put(list, at + 2 * i, 2147483648 + i as u64);
-        rings::put(list, at + 2 * i + 1, 2147483648 + i as u64);
+    if let [layer, count, pairs @ ..] = list {
+        *layer = 0;
+        *count = (pairs.len() / 2) as i32;
+        for (i, pair) in pairs.chunks_exact_mut(2).enumerate() {
+            pair.fill(i as i32);
+        }
     }
-}
-
-// Puts a ring of these pairs at `at`.
-fn ring(list: &mut [i32], at: usize, pairs: usize)
-    requires { (at ≤ 10000) × (pairs ≤ 5000) }
-{
-    rings::put(list, at, 2147483648);
-    rings::put(list, at + 1, 2147483648 + pairs as u64);
-    pairs_at(list, at + 2, pairs);
 }
 
 // One ring of 4,096 pairs: written, read back and written again.
 fn pairs_4096(out: &mut Console) -> fmt::Result {
     let mut list = [0i32; 8194];
-    ring(&mut list, 0, 4096);
+    ring(&mut list);
     let mut file = [0u8; 8196];
     say(out, "write 4096 pairs", maskwriter::write(&list, &mut file))?;
     let mut back = [0i32; 8194];
@@ -156,26 +148,24 @@ fn pairs_4096(out: &mut Console) -> fmt::Result {
 
 // One ring of 4,097 pairs, and two rings of that many.
 fn pairs_4097(out: &mut Console) -> fmt::Result {
-    let mut list = [0i32; 8202];
-    ring(&mut list, 0, 4097);
+    let mut list = [0i32; 8196];
+    ring(&mut list);
     let mut file = [0u8; 1];
     let mut edges = [0i32; 1];
-    say(
-        out,
-        "write 4097 pairs",
-        maskwriter::write(&list[0..8196], &mut file),
-    )?;
+    say(out, "write 4097 pairs", maskwriter::write(&list, &mut file))?;
     say(
         out,
         "edges of 4097 pairs",
-        ringedges::edges_of(&list[0..8196], &mut edges),
+        ringedges::edges_of(&list, &mut edges),
     )?;
-    ring(&mut list, 0, 4095);
-    ring(&mut list, 8192, 2);
+    let mut two = [0i32; 8198];
+    let (most, rest) = two.split_at_mut(8192);
+    ring(most);
+    ring(rest);
     say(
         out,
         "write 4095 and 2 pairs",
-        maskwriter::write(&list[0..8198], &mut file),
+        maskwriter::write(&two, &mut file),
     )?;
     judge(out, "read 4097 pairs", &[0x01u8, 0x00, 0x81, 0x20])
 }

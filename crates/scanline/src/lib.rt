@@ -19,15 +19,17 @@ impl Counts {
         }
     }
 
-    // The counts past one crossing more, of an edge of this layer and direction: one of the eight is changed by one. The specification names this form, direction and all.
+    // The counts past one crossing more, of an edge of this layer and direction: one of the eight is changed by one.
+    //
+    // A rule of the project: the specification, under "The form each place takes", names this function, direction and all. A layer is a number below 8: see `strips::turned`.
     pub fn crossed(mut self, layer: usize, west: bool) -> Self
         requires { (layer < 8) × (0 < get_or self.raised layer 0) × (get_or self.raised layer 0 < 65535) }
         ensures { result ≡ crossed_by self layer west }
     {
         if west {
-            self.raised[layer] = self.raised[layer] + 1;
+            self.raised[layer] += 1;
         } else {
-            self.raised[layer] = self.raised[layer] - 1;
+            self.raised[layer] -= 1;
         }
         self
     }

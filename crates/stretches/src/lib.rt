@@ -13,11 +13,13 @@ pub struct Stretch {
 }
 
 // The strips of a line, below hi: their covers now, and which covers are inside.
+//
+// That the strips from r on can be looked at (`RowsIn`) is asked by `skip`, `fill` and `next`. No plainer as an invariant of a line: it speaks of told and of r too, and a line holds neither.
 #[derive(Clone, Copy)]
-struct Line<'a> {
-    covers: &'a [u8],
-    truth: &'a [bool],
-    hi: usize,
+pub struct Line<'a> {
+    pub covers: &'a [u8],
+    pub truth: &'a [bool],
+    pub hi: usize,
 }
 
 impl Line<'_> {
@@ -34,6 +36,8 @@ impl Line<'_> {
 const BLOCK: usize = 64;
 
 // Whether none of the block's covers from a on is another: one pass to its end, which the compiler turns into vector code.
+//
+// By index. No plainer over the two slices zipped: each would first be cut out of its column.
 fn quiet(told: &[u8], covers: &[u8], a: usize) -> bool
     requires { StripsIn told.now covers.now a (a + 64) }
     ensures { result ≡ true → Alike told.now covers.now a (a + 64) }
@@ -45,23 +49,24 @@ fn quiet(told: &[u8], covers: &[u8], a: usize) -> bool
     n == 0
 }
 
-// From r on past whole blocks of strips whose covers are the same. It goes from block to block as long as one is quiet, which its condition says,
-// and its result is where it stops: a `for` over blocks would be left by a `return` for each of the two reasons.
+// From r on past whole blocks of strips whose covers are the same: to the first block that is not quiet or not whole.
 fn skip_blocks(told: &[u8], covers: &[u8], r: usize, hi: usize) -> usize
     requires { StripsIn told.now covers.now r hi }
     ensures { (r ≤ result) × (result ≤ hi) × Alike told.now covers.now r result }
 {
     let mut q = r;
+    // Tried, and it misses the bar of bench/README.md that this meets: a `for` over `(r..hi).step_by(BLOCK)` proves, but tests the end three times a turn, which costs a call up to
+    // 7 in a hundred.
     while q + BLOCK <= hi && quiet(told, covers, q) {
         q += BLOCK;
     }
     q
 }
 
-// Told and covers are two columns and no column of pairs: they are compared 64 at a time.
 // The first strip from r on that comes inside or goes out, where there is one. The covers that were passed are told.
-// It stands apart, so that its loop has the registers to itself.
-#[inline(never)]
+//
+// Told and covers stay two columns, and no column of pairs, which is no plainer: the covers are those of the rows, which an edge changes and told does not know,
+// and a block of each column is compared in one pass.
 fn skip(told: &mut [u8], line: Line<'_>, r: usize) -> Option<usize>
     requires { RowsIn told.old line.covers.now line.truth.now r line.hi }
     ensures { Skipped told.old told.new line.entry.covers.now line.entry.truth.now r line.entry.hi result }
@@ -76,14 +81,13 @@ fn skip(told: &mut [u8], line: Line<'_>, r: usize) -> Option<usize>
     None
 }
 
-// Whether a strip changes, and to b: three values, and no step. A strip that changes the other way is past a touching corner.
+// Whether a strip changes, and to b. A strip that changes the other way is past a touching corner.
+//
+// No plainer: the three flags are values, and none says which step to run.
 fn comes_to(was: bool, is: bool, b: bool) -> bool
     ensures { (result ≡ true → (was ≡ not b) × (is ≡ b)) × (result ≡ false → was ≡ not b → is ≡ b → ⊥) }
 {
-    if was == is {
-        return false;
-    }
-    is == b
+    was != is && is == b
 }
 
 // The strips from r on that become b, as far as they do: the stretch ends where nothing changes, and where the change turns at a touching corner.
@@ -103,13 +107,12 @@ fn fill(told: &mut [u8], line: Line<'_>, r: usize, b: bool) -> usize
 
 // The next stretch from strip r on, below hi, where there is one. The covers up to its end are told; where there is none, all are.
 // Cost: the strips from r to its end.
-pub fn next(told: &mut [u8], covers: &[u8], truth: &[bool], r: usize, hi: usize) -> Option<Stretch>
-    requires { RowsIn told.old covers.now truth.now r hi }
-    ensures { NextIs told.old told.new covers.now truth.now r hi result }
+pub fn next(told: &mut [u8], line: Line<'_>, r: usize) -> Option<Stretch>
+    requires { RowsIn told.old line.covers.now line.truth.now r line.hi }
+    ensures { NextIs told.old told.new line.entry.covers.now line.entry.truth.now r line.entry.hi result }
 {
-    let line = Line { covers, truth, hi };
     let s = skip(told, line, r)?;
-    let inside = line.holds(covers[s]);
+    let inside = line.holds(line.covers[s]);
     let e = fill(told, line, s, inside);
     Some(Stretch {
         from: s,

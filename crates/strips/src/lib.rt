@@ -6,6 +6,7 @@ ghost use Rattle.std.specs.Prelude.{◌≡◌, ◌*◌, ◌<◌, ◌≤◌, pos,
 ghost use Rattle.meaning.specs.Numbers.{bit};
 ghost use Rattle.meaning.specs.Edges.{covers};
 ghost use Rattle.strips.specs.Cover.{turned_to};
+ghost use Rattle.strips.specs.Lent.{Lent};
 ghost use Rattle.strips.specs.Strips.{TakeOk, Taken, CrossOk, Crossed};
 
 use scanline::Scanline;
@@ -17,22 +18,31 @@ pub struct Strips<'a> {
     pub covers: &'a mut [u8],
 }
 
-// Whether a layer with this count covers, as a digit.
-fn covering(count: u16) -> u8
-    ensures { result ≡ bit (covers (pos count -ℤ pos 8192)) }
+// Whether a layer with this count covers.
+fn covering(count: u16) -> bool
+    ensures { result ≡ covers (pos count -ℤ pos 8192) }
 {
-    if Scanline::ZERO < count { 1 } else { 0 }
+    Scanline::ZERO < count
 }
 
-// The cover with the digit of a layer made d. A layer is a number below 8, here and in `scanline`, `marks` and `expression`: a type for it would be opened at each array and each digit.
-fn turned(cover: u8, layer: usize, d: u8) -> u8
-    requires { (layer < 8) × (d < 2) }
-    ensures { result ≡ turned_to cover layer d }
+// The cover with the digit of a layer made 1 where the layer covers, else 0. By a mask, and not by shifts of the cover: the mask is the same all along a pass.
+//
+// No plainer: `covered` is what the digit is to be, and a closure in its place would hide that.
+// A layer is a number below 8, here and in `scanline`, `marks` and `expression`. No plainer as a type, which would be opened at each array and each digit.
+fn turned(cover: u8, layer: usize, covered: bool) -> u8
+    requires { layer < 8 }
+    ensures { result ≡ turned_to cover layer (bit covered) }
 {
-    cover - ((cover >> layer) % 2 << layer) + (d << layer)
+    let digit = 1u8 << layer;
+    if covered {
+        cover | digit
+    } else {
+        cover & !digit
+    }
 }
 
 // The strips from a on, below b, take over the layer's count that was handed on, and set its digit in their covers anew.
+//
 // One pass over neighbours, which the compiler turns into vector code: so it has the two slices, and not the struct.
 pub fn take_over(
     c: &mut [u16],
@@ -59,32 +69,18 @@ pub fn take_over(
 pub fn cross(strips: &mut Strips<'_>, n: usize, layer: usize, from: usize, to: usize)
     requires { CrossOk n layer from to strips.old.counts.now strips.old.covers.now }
     ensures crossed { Crossed n layer from to strips.old.counts.now strips.new.counts.now strips.old.covers.now strips.new.covers.now }
-    ensures lent { (strips.new.counts.ghost_name ≡ strips.old.counts.ghost_name) × (strips.new.covers.ghost_name ≡ strips.old.covers.ghost_name) }
+    ensures lent { Lent strips.old strips.new }
 {
+    let west = to < from;
     let s = Scanline::fresh();
-    if to < from {
-        let next = s.crossing(layer, true);
-        let d = next.counts;
-        take_over(
-            strips.counts,
-            strips.covers,
-            n,
-            layer,
-            to,
-            from,
-            d.raised[layer],
-        );
-        return;
-    }
-    let next = s.crossing(layer, false);
-    let d = next.counts;
+    let next = s.crossing(layer, west);
     take_over(
         strips.counts,
         strips.covers,
         n,
         layer,
-        from,
-        to,
-        d.raised[layer],
+        to.min(from),
+        to.max(from),
+        next.counts.raised[layer],
     );
 }

@@ -43,9 +43,9 @@ pub record Fills (base : ℕ) (ws layers ends : List ℕ) (truth : List Bool) (v
   pub rs : List (Record ℕ)
   pub lines : lines_to base ws layers ends truth (length vx) r.next ≡ lines_to base ws layers ends truth (length vx) g ++ rs
   pub words : loc ≡ map word_of rs ++ drop (length rs) loc₀
-  pub count : r.count ≡ length rs
+  pub count : r.read.count ≡ length rs
   pub fits : length rs ≤ length loc₀
-  pub weighed : Weighed sum (map (on_level vx) rs) r.sum
+  pub weighed : Weighed sum (map (on_level vx) rs) r.read.sum
   pub at : At (length m) ws layers ends r.next c m told d
   pub marks_same : d ≡ d₀
   pub from : g ≤ r.next

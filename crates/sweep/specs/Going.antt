@@ -117,7 +117,7 @@ module _ {base : ℕ} {ws layers ends : List ℕ} {truth : List Bool} {vx : List
         }
 
   pub going_done : {loc c m told d : List ℕ} {e k acc : ℕ} → Going base ws layers ends truth vx n g sum loc₀ loc c m told d₀ d e k acc → length m ≡ n → (g < length ws → g < e) → (e < length ws → length loc < k + length vx)
-      → Fills base ws layers ends truth vx g sum loc₀ loc c m told d₀ d (record { next = e; count = k; sum = acc })
+      → Fills base ws layers ends truth vx g sum loc₀ loc c m told d₀ d (record { next = e; read = record { count = k; sum = acc } })
   going_done {loc} {c} {m} {told} {d} {e} {k} {acc} S w on full = record {
     rs = S.rs;
     lines = S.lines;
@@ -187,12 +187,12 @@ module _ {base : ℕ} {ws layers ends : List ℕ} {truth : List Bool} {vx : List
         rows = A.swept.long_covers;
       }
 
-  pub filling_full : e < length ws → length loc < k + length vx → Fills base ws layers ends truth vx g sum loc₀ loc c m told d₀ d (record { next = e; count = k; sum = acc })
+  pub filling_full : e < length ws → length loc < k + length vx → Fills base ws layers ends truth vx g sum loc₀ loc c m told d₀ d (record { next = e; read = record { count = k; sum = acc } })
   filling_full more full = going_done F.given F.going F.rows (λ _. go (dec_lt g e)) (λ _. full)
     where
       go : Dec (g < e) → g < e
       go (yes u) = u
       go (no u) = let z : ⊥ = omega (arith, F.start (omega (arith, F.going.from)), F.room, F.long) in absurd z
 
-  pub filling_done : length ws ≤ e → Fills base ws layers ends truth vx g sum loc₀ loc c m told d₀ d (record { next = e; count = k; sum = acc })
+  pub filling_done : length ws ≤ e → Fills base ws layers ends truth vx g sum loc₀ loc c m told d₀ d (record { next = e; read = record { count = k; sum = acc } })
   filling_done end = going_done F.given F.going F.rows (λ h. omega arith) (λ h. let z : ⊥ = omega arith in absurd z)

@@ -1,4 +1,5 @@
 -- What the contracts of `verticals` cite, and its laws.
+pub mod Ends
 pub mod Words
 pub mod Parts
 pub mod Counting

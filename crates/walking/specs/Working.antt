@@ -4,7 +4,9 @@
 --   Fresh             the rows of n strips, their marks and covers, and n counters, all as they were made; and room for as many words
 --   WorkOk            refusals 1 to 4 do not apply, columns as long as the list has edges and ends, and fresh arrays
 --   SweepOk, Sweeps   before and after the sweep, whatever order the edges of one y come in
-use Rattle.std.specs.Prelude.{◌≡◌, Bool, List, ℕ, ◌+◌, ◌/◌, ◌<◌, ◌≤◌, ℤ, length, get_or}
+--   AsLong            each array, after, is as long as it was before: what is left of them comes in nested pairs, in the order of `Arrays`
+use Rattle.std.proofs.Common.{MutBor}
+use Rattle.std.specs.Prelude.{⊤, ◌≡◌, Bool, List, ℕ, ◌+◌, ◌/◌, ◌<◌, ◌≤◌, ℤ, length, get_or}
 use Rattle.meaning.specs.Numbers.{limit}
 use Rattle.meaning.specs.Answers.{accepted, First}
 use Rattle.laws.specs.Accepting.{Passed}
@@ -13,6 +15,7 @@ use Rattle.axis.specs.Axes.{InOrder}
 use Rattle.marks.specs.Marks.{FreshMarks}
 use Rattle.sweep_laws.specs.Lines.{lines_to}
 use Rattle.writing.specs.declared.Found.{Found}
+use Rattle.walking.specs.declared.Arrays.{Arrays}
 use Rattle.writing.specs.Writing.{WriteOk, Wrote}
 
 pub record Zeros (n : ℕ) (l : List ℕ) : Type 0 where
@@ -51,3 +54,24 @@ pub record Sweeps (ys layers ends : List ℕ) (truth : List Bool) (vx : List ℕ
   pub ws : List ℕ
   pub order : InOrder base ys ws
   pub wrote : Wrote vx (lines_to base ws layers ends truth (length vx) (length ws)) out out' r
+
+-- ---- what is left in the arrays
+
+abbrev Slot : Type 0
+Slot = MutBor (List ℕ)
+
+abbrev pub AsLong : Arrays → Slot × (Slot × (Slot × (Slot × (Slot × (Slot × (Slot × (Slot × (Slot × (Slot × (Slot × (Slot × (Slot × ⊤)))))))))))) → Type 0
+AsLong a (layers, (ys, (xs, (ends, (vx, (ws, (room, (c, (covers, (told, (marks, (cs, (loc, _))))))))))))) =
+    (length layers.now ≡ length a.layers.now)
+    × (length ys.now ≡ length a.ys.now)
+    × (length xs.now ≡ length a.xs.now)
+    × (length ends.now ≡ length a.ends.now)
+    × (length vx.now ≡ length a.vx.now)
+    × (length ws.now ≡ length a.ws.now)
+    × (length room.now ≡ length a.room.now)
+    × (length c.now ≡ length a.c.now)
+    × (length covers.now ≡ length a.covers.now)
+    × (length told.now ≡ length a.told.now)
+    × (length marks.now ≡ length a.marks.now)
+    × (length cs.now ≡ length a.cs.now)
+    × (length loc.now ≡ length a.loc.now)

@@ -1,8 +1,10 @@
 // A walk over an edge list to which refusals 1 to 4 do not apply: the records into the lent buffer, and the inside cells. Every working array is lent.
 #![tactic(auto)]
 
+ghost use Rattle.std.specs.Prelude.{◌≡◌, length};
+ghost use Rattle.strips.specs.Lent.{Lent, Long};
 ghost use Rattle.walking.specs.Walks.{Walks};
-ghost use Rattle.walking.specs.Working.{SweepOk, Sweeps, WorkOk};
+ghost use Rattle.walking.specs.Working.{SweepOk, Sweeps, WorkOk, AsLong};
 
 use answers::Refusal;
 use crossings::Edges;
@@ -12,7 +14,8 @@ use sweep::Sweep;
 use writing::Found;
 
 // The sweep over edges with ranked x: in order of y, and written. What the working arrays hold at the end is of no use.
-// It has its arrays one by one, and not as `Arrays`: the borrow checker has no rule for a `Sweep` made of references that were taken out of that struct.
+//
+// Tried with `Arrays` in the place of its arrays, and the proof didn't close: the borrow checker has no rule for a `Sweep` made of references that were taken out of that struct.
 fn sweep<'a>(
     out: &mut [i32],
     loc: &mut [u64],
@@ -29,7 +32,9 @@ fn sweep<'a>(
     marks: &mut [u16],
 ) -> Found
     requires { SweepOk ys.now layers.now ends.now truth.now vx.now ws.old room.old loc.old cs.old strips.old.counts.now strips.old.covers.now told.old marks.old }
-    ensures { Sweeps ys.now layers.now ends.now truth.now vx.now out.old out.new result }
+    ensures swept { Sweeps ys.now layers.now ends.now truth.now vx.now out.old out.new result }
+    ensures long { Long strips.old strips.new }
+    ensures lent { Lent strips.old strips.new }
 {
     let base = axis::in_order(ys, ws, room);
     let edges = Edges {
@@ -65,7 +70,7 @@ pub struct Arrays<'a> {
     pub loc: &'a mut [u64],
 }
 
-// The walk, with n strips kept; refusals 5 to 10 in their order. What the working arrays hold at the end is of no use.
+// The walk, with n strips kept; refusals 5 to 10 in their order. What the working arrays hold at the end is of no use; they keep their lengths.
 pub fn work(
     edges: &[i32],
     text: &[u8],
@@ -74,7 +79,8 @@ pub fn work(
     arrays: Arrays<'_>,
 ) -> Result<Found, Refusal>
     requires { WorkOk edges.now n arrays.layers.now arrays.ys.now arrays.xs.now arrays.ends.now arrays.vx.now arrays.ws.now arrays.room.now arrays.c.now arrays.covers.now arrays.told.now arrays.marks.now arrays.cs.now arrays.loc.now }
-    ensures { Walks edges.now text.now out.old out.new result }
+    ensures walked { Walks edges.now text.now out.old out.new result }
+    ensures long { AsLong arrays.entry arrays.exit }
 {
     let Arrays {
         layers,

@@ -15,7 +15,9 @@ fn size(y: u32, a: u32, b: u32) -> u64
     u64::from(y) * u64::from(b - a)
 }
 
-// The sum with the stretch from a to b at y: a stretch that came inside goes west, so its weight is negative: the flag is the stretch's own. The sum wraps on purpose.
+// The sum with the stretch from a to b at y: a stretch that came inside goes west, so its weight is negative. The sum wraps on purpose.
+//
+// No plainer: `inside` is a field of the stretch, and a closure in its place would only name one of two signs.
 pub fn weighed(sum: u64, y: u32, a: u32, b: u32, inside: bool) -> u64
     requires { WeightOk y a b }
     ensures { Weighed sum (record_at 0 y (run a b (turn (not inside) inside)) ∷ []) result }

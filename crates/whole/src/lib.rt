@@ -7,6 +7,8 @@ ghost use Rattle.meaning.specs.Numbers.{limit, in_range};
 
 use scanline::Scanline;
 
+// A cast, here and in the crates above, loses nothing, which each is proved of. A `try_from` would be no plainer: it would answer a refusal that cannot come.
+
 // 2^31, half of what 32 bits hold.
 pub const HALF: i64 = 2147483648;
 

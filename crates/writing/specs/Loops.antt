@@ -95,8 +95,8 @@ module _ {base : ℕ} {ws layers ends : List ℕ} {truth : List Bool} {vx : List
   abbrev after : List (Record ℕ)
   after = lines_to base ws layers ends truth (length vx) r.next
 
-  front_is : take r.count loc' ≡ map word_of F.rs
-  front_is = part_is F.rs loc loc' r.count F.words F.count
+  front_is : take r.read.count loc' ≡ map word_of F.rs
+  front_is = part_is F.rs loc loc' r.read.count F.words F.count
 
   pub next_within : r.next ≤ length ws
   next_within = F.at.place.fits
@@ -110,20 +110,20 @@ module _ {base : ℕ} {ws layers ends : List ℕ} {truth : List Bool} {vx : List
   rs_ok : All (LevelOk (length vx) 2147483648) F.rs
   rs_ok = all_second (LevelOk (length vx) 2147483648) before F.rs (subst (All (LevelOk (length vx) 2147483648)) F.lines (lines_ok S.given r.next))
 
-  pub count_low : r.count ≤ length loc'
+  pub count_low : r.read.count ≤ length loc'
   count_low = omega (arith, F.count, F.fits, going_long F.rs loc loc' F.words F.fits)
 
-  pub sum_low : all + r.count ≤ 33554432
+  pub sum_low : all + r.read.count ≤ 33554432
   sum_low = omega (arith, S.number, F.count, after_few, after_long)
 
-  pub count_ready : CountOk (take r.count loc') cs
+  pub count_ready : CountOk (take r.read.count loc') cs
   count_ready =
       rw front_is
       (count_ok (digits_in (map word_of before)) (map word_of F.rs) cs S.counted (subst (λ k. Low k (map word_of F.rs)) (sym S.wide) (words_low (length vx) 2147483648 (ranks_few S.given) F.rs rs_ok))
       (omega (arith, digits_length (map word_of before), length-map before word_of, length-map F.rs word_of, after_few, after_long)))
 
-  pub measuring_more : {cs' : List ℕ} → Tallied (digits_in (take r.count loc')) cs cs' → length m' ≡ n
-      → Measuring base ws layers ends truth vx n loc₀ loc' cs₀ cs' c₀ c' m₀ m' told₀ told' d₀ d' r.next (all + r.count) r.count r.sum
+  pub measuring_more : {cs' : List ℕ} → Tallied (digits_in (take r.read.count loc')) cs cs' → length m' ≡ n
+      → Measuring base ws layers ends truth vx n loc₀ loc' cs₀ cs' c₀ c' m₀ m' told₀ told' d₀ d' r.next (all + r.read.count) r.read.count r.read.sum
   measuring_more {cs'} T rows = record {
     given = S.given;
     at = rw rows at F.at;
@@ -231,13 +231,13 @@ module _ {base : ℕ} {ws layers ends : List ℕ} {truth : List Bool} {vx : List
   ok : All (LevelOk (length vx) 2147483648) hs
   ok = lines_ok S.given (length ws)
 
-  part : take r.count loc' ≡ map word_of F.rs
-  part = part_is F.rs loc loc' r.count F.words F.count
+  part : take r.read.count loc' ≡ map word_of F.rs
+  part = part_is F.rs loc loc' r.read.count F.words F.count
 
-  pub repart_low : r.count ≤ length loc'
+  pub repart_low : r.read.count ≤ length loc'
   repart_low = omega (arith, F.count, F.fits, going_long F.rs loc loc' F.words F.fits)
 
-  pub repart_sum : k + r.count ≤ 33554432
+  pub repart_sum : k + r.read.count ≤ 33554432
   repart_sum = omega (arith, S.number, F.count, bound, ap length whole, length-append so_far (F.rs ++ (lines_prefix S.given r.next).rest), length-append F.rs (lines_prefix S.given r.next).rest)
 
   writes_all : Writes vx (length hs) so_far out₀ cs₀ out cs
@@ -249,13 +249,13 @@ module _ {base : ℕ} {ws layers ends : List ℕ} {truth : List Bool} {vx : List
   fits_all : 8 * length hs ≤ length out₀
   fits_all = omega (arith, S.fits, S.all)
 
-  pub rewriting_part : PartOk (take r.count loc') k h vx cs out
+  pub rewriting_part : PartOk (take r.read.count loc') k h vx cs out
   rewriting_part =
       rw (part, S.number, S.all)
       (part_ready vx (ranks_few S.given) hs so_far F.rs (lines_prefix S.given r.next).rest whole ok out₀ cs₀ ready_all fits_all bound out cs writes_all)
 
-  pub rewriting_more : {out' : List ℤ} {cs' : List ℕ} → Parted (take r.count loc') k h vx cs cs' out out' → length m' ≡ n → length cs' ≡ length cs
-      → Rewriting base ws layers ends truth vx h n out₀ out' loc₀ loc' cs₀ cs' c₀ c' m₀ m' told₀ told' d₀ d' r.next (k + r.count)
+  pub rewriting_more : {out' : List ℤ} {cs' : List ℕ} → Parted (take r.read.count loc') k h vx cs cs' out out' → length m' ≡ n → length cs' ≡ length cs
+      → Rewriting base ws layers ends truth vx h n out₀ out' loc₀ loc' cs₀ cs' c₀ c' m₀ m' told₀ told' d₀ d' r.next (k + r.read.count)
   rewriting_more {out'} {cs'} P rows wide =
       let W : Writes vx (length hs) (so_far ++ F.rs) out₀ cs₀ out' cs' =
       writes_more vx (ranks_few S.given) hs so_far F.rs (lines_prefix S.given r.next).rest whole ok out₀ cs₀ ready_all fits_all bound out cs writes_all out' cs' (rw (part, S.number, S.all) at P) in

@@ -2,6 +2,7 @@
 #![tactic(auto)]
 
 ghost use Rattle.std.specs.Prelude.{◌≡◌, length};
+ghost use Rattle.strips.specs.Lent.{Lent, Long};
 ghost use Rattle.sweep_laws.specs.Lines.{lines_to};
 ghost use Rattle.writing.specs.Writing.{MeasureOk, Measures, AgainOk, written, WriteOk, Wrote};
 
@@ -35,8 +36,8 @@ fn measure(
 ) -> Measured
     requires { MeasureOk given.base given.edges.words.now given.edges.layers.now given.edges.ends.now given.truth.now given.vx.now loc.old cs.old strips.old.counts.now strips.old.covers.now told.old marks.old }
     ensures measured { Measures given.entry.base given.entry.edges.words.now given.entry.edges.layers.now given.entry.edges.ends.now given.entry.truth.now given.entry.vx.now loc.new cs.new strips.new.counts.now strips.new.covers.now told.new marks.new result }
-    ensures long { (length strips.new.counts.now ≡ length strips.old.counts.now) × (length strips.new.covers.now ≡ length strips.old.covers.now) }
-    ensures lent { (strips.new.counts.ghost_name ≡ strips.old.counts.ghost_name) × (strips.new.covers.ghost_name ≡ strips.old.covers.ghost_name) }
+    ensures long { Long strips.old strips.new }
+    ensures lent { Lent strips.old strips.new }
 {
     let mut g = 0;
     let mut all = 0;
@@ -44,16 +45,19 @@ fn measure(
     let mut sum = 0;
     while g < given.edges.words.len() {
         let f = sweep::fill(loc, g, sum, given, strips, told, marks);
-        last = f.count;
+        last = f.read.count;
         verticals::count(&loc[0..last], cs);
         all += last;
-        sum = f.sum;
+        sum = f.read.sum;
         g = f.next;
     }
     Measured { all, last, sum }
 }
 
-// Where the horizontals were too many for the working array: the sweep once more, each part written as it is found. Its parameters are those of `write`, and h.
+// Where the horizontals were too many for the working array: the sweep once more, each part written as it is found.
+//
+// No plainer with a struct of loc and cs: of the four functions that hand the two on, each would need a clause for each slice, that it is still the one that was lent.
+// Nor as one loop with `measure`, over a closure for each part: the closure would be lent cs, and here out too, and its contract would be the two of today under a condition.
 fn again(
     h: usize,
     out: &mut [i32],
@@ -66,14 +70,14 @@ fn again(
 )
     requires { AgainOk given.base given.edges.words.now given.edges.layers.now given.edges.ends.now given.truth.now given.vx.now h out.old loc.old cs.old strips.old.counts.now strips.old.covers.now told.old marks.old }
     ensures written { out.new ≡ written given.entry.vx.now (lines_to given.entry.base given.entry.edges.words.now given.entry.edges.layers.now given.entry.edges.ends.now given.entry.truth.now (length given.entry.vx.now) (length given.entry.edges.words.now)) out.old }
-    ensures long { (length strips.new.counts.now ≡ length strips.old.counts.now) × (length strips.new.covers.now ≡ length strips.old.covers.now) }
-    ensures lent { (strips.new.counts.ghost_name ≡ strips.old.counts.ghost_name) × (strips.new.covers.ghost_name ≡ strips.old.covers.ghost_name) }
+    ensures long { Long strips.old strips.new }
+    ensures lent { Lent strips.old strips.new }
 {
     let mut g = 0;
     let mut n = 0;
     while g < given.edges.words.len() {
         let f = sweep::fill(loc, g, 0, given, strips, told, marks);
-        let count = f.count;
+        let count = f.read.count;
         parts::put(&loc[0..count], n, h, given.vx, cs, out);
         n += count;
         g = f.next;
@@ -94,8 +98,8 @@ pub fn write(
 ) -> Found
     requires { WriteOk given.base given.edges.words.now given.edges.layers.now given.edges.ends.now given.truth.now given.vx.now loc.old cs.old strips.old.counts.now strips.old.covers.now told.old marks.old }
     ensures wrote { Wrote given.entry.vx.now (lines_to given.entry.base given.entry.edges.words.now given.entry.edges.layers.now given.entry.edges.ends.now given.entry.truth.now (length given.entry.vx.now) (length given.entry.edges.words.now)) out.old out.new result }
-    ensures long { (length strips.new.counts.now ≡ length strips.old.counts.now) × (length strips.new.covers.now ≡ length strips.old.covers.now) }
-    ensures lent { (strips.new.counts.ghost_name ≡ strips.old.counts.ghost_name) × (strips.new.covers.ghost_name ≡ strips.old.covers.ghost_name) }
+    ensures long { Long strips.old strips.new }
+    ensures lent { Lent strips.old strips.new }
 {
     let m = measure(loc, cs, given, strips, told, marks);
     let h = m.all;

@@ -9,14 +9,14 @@ loop-s-init c = read_start c.requires
 pub next-requires : goal.next-requires
 next-requires c = rows_in c.requires c.loop-s.invariant
 
-pub bounds-loc-n : goal.bounds-loc-n
-bounds-loc-n c = let K = c.in-Some.ensures in room_in c.requires c.loop-s.invariant (omega (arith, K.from, K.some, K.to))
+pub bounds-loc-so_far : goal.bounds-loc-so_far
+bounds-loc-so_far c = let K = c.in-Some.ensures in room_in c.requires c.loop-s.invariant (omega (arith, K.from, K.some, K.to))
 
-pub weighed-acc-requires : goal.weighed-acc-requires
-weighed-acc-requires c = weight_ok c.requires c.loop-s.invariant c.in-Some.ensures
+pub weighed-requires : goal.weighed-requires
+weighed-requires c = weight_ok c.requires c.loop-s.invariant c.in-Some.ensures
 
 pub loop-s-preserved : goal.loop-s-preserved
-loop-s-preserved c = read_turn c.requires c.loop-s.invariant c.in-Some.ensures c.directed.ensures c.weighed-acc.ensures
+loop-s-preserved c = read_turn c.requires c.loop-s.invariant c.in-Some.ensures c.directed.ensures c.weighed.ensures
 
 pub returns : goal.returns
 returns c = read_done c.requires c.loop-s.invariant c.in_default.ensures

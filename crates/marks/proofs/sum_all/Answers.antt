@@ -1,6 +1,6 @@
 -- `marks::sum_all` meets its contract. The loop: the layers below l are done. Assumes nothing.
-use mathlib.Core.Path.{◌∙◌}
 use native.Mathlib.Omega.{arith}
+use Rattle.strips.specs.Lent.{lent_on}
 use Rattle.marks.proofs.AllLaws.{all_layer, all_turn}
 use Rattle.marks.proofs.sum_all.Goals as goal
 
@@ -10,6 +10,5 @@ sum_layer-requires c = all_layer c.requires c.loop-l.invariant.summing (omega (a
 pub loop-l-preserved : goal.loop-l-preserved
 loop-l-preserved c = record {
   summing = all_turn c.requires c.loop-l.invariant.summing (omega (arith, c.loop-l-test.true)) c.sum_layer.ensures.summed;
-  counts = c.sum_layer.ensures.lent.0 ∙ c.loop-l.invariant.counts;
-  covers = c.sum_layer.ensures.lent.1 ∙ c.loop-l.invariant.covers;
+  lent = lent_on c.loop-l.invariant.lent c.sum_layer.ensures.lent;
 }

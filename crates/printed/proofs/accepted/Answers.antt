@@ -3,7 +3,8 @@ use borrow.Author.Rules.{rules}
 use native.Mathlib.Omega.{arith}
 use Rattle.printed_laws.specs.Lengths.{accepted_length, area_length}
 use Rattle.printed_laws.specs.Lines.{accepted_text}
-use Rattle.printed_laws.specs.Stores.{Front, and_then, at_front}
+use Rattle.numerals.specs.Stored.{stored_then}
+use Rattle.printed_laws.specs.Stores.{Front, at_front}
 use Rattle.printed.proofs.accepted.Goals as goal
 
 pub first_line-requires : goal.first_line-requires
@@ -20,5 +21,5 @@ unfolding accepted_text
 returns c =
     subst (λ after. Front c.args.out.now (accepted_text c.args.value c.args.records.now c.args.cells) after c.area_line.new.to.at) (search rules)
     (at_front
-    (and_then c.first_line.ensures.written (and_then c.record_lines.ensures.written c.area_line.ensures.written))
+    (stored_then c.first_line.ensures (stored_then c.record_lines.ensures.stored c.area_line.ensures)).written
     (omega (arith, accepted_length _ c.ranges.value.fits, area_length _ c.ranges.cells.fits)))

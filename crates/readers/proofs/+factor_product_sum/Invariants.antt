@@ -14,14 +14,14 @@ decreases-product l = enough l.text.now a_product l.at
 abbrev pub decreases-sum : goal.decreases-sum
 decreases-sum l = enough l.text.now a_sum l.at
 
-abbrev pub invariant-product-loop-i : goal.invariant-product-loop-i
-invariant-product-loop-i l = (l.at ≤ l.i) × Going (cover_of l.handed) l.text a_product product_on l.at l.v l.i
+abbrev pub invariant-product-loop-op : goal.invariant-product-loop-op
+invariant-product-loop-op l = (l.at ≤ l.i) × Going (cover_of l.handed) l.text a_product product_on l.at l.v l.i
 
-abbrev pub decreases-product-loop-i : goal.decreases-product-loop-i
-decreases-product-loop-i l = length l.text - l.i
+abbrev pub decreases-product-loop-op : goal.decreases-product-loop-op
+decreases-product-loop-op l = length l.text - l.i
 
-abbrev pub invariant-sum-loop-i : goal.invariant-sum-loop-i
-invariant-sum-loop-i l = (l.at ≤ l.i) × Going (cover_of l.handed) l.text a_sum sum_on l.at l.v l.i
+abbrev pub invariant-sum-loop-op : goal.invariant-sum-loop-op
+invariant-sum-loop-op l = (l.at ≤ l.i) × Going (cover_of l.handed) l.text a_sum sum_on l.at l.v l.i
 
-abbrev pub decreases-sum-loop-i : goal.decreases-sum-loop-i
-decreases-sum-loop-i l = length l.text - l.i
+abbrev pub decreases-sum-loop-op : goal.decreases-sum-loop-op
+decreases-sum-loop-op l = length l.text - l.i

@@ -1,21 +1,25 @@
 -- `records::put` meets its contract. Assumes nothing.
 use native.Mathlib.Omega.{arith}
-use mathlib.Core.Path.{◌∙◌}
+use Rattle.std.proofs.Common.{lt-ltb, le-ltb}
 use mir.Facts.{to_z_pos}
 use mir.Syntax.{w32}
 use Rattle.records.specs.Put.{put_at}
 use Rattle.records.proofs.Coordinates.{held32}
 use Rattle.records.proofs.put.Goals as goal
 
-pub returns : goal.returns
+pub returns-then-n-out : goal.returns-then-n-out
 unfolding put_at
-returns c =
-    let a = c.args in
+returns-then-n-out c =
+    let a = c.args.given in
     let p = c.requires in
-    c.store.ensures
-    ∙ simp (
+    simp (
+      lt-ltb _ _ c.if-n-out.true,
       to_z_pos w32 {n = a.kind} (omega arith),
-      held32 a.place _ c.coordinate-p.ensures p.place,
-      held32 a.from _ c.coordinate-f.ensures p.from,
-      held32 a.to _ c.coordinate-t.ensures p.to,
+      held32 a.place _ c.coordinate.ensures p.place,
+      held32 a.from _ c.coordinate-then-n-out.ensures p.from,
+      held32 a.to _ c.coordinate-then-n-out-2.ensures p.to,
     )
+
+pub returns-else-n-out : goal.returns-else-n-out
+unfolding put_at
+returns-else-n-out c = simp (le-ltb _ _ c.if-n-out.false)

@@ -1,7 +1,13 @@
 -- `strips::turned` meets its contract. Assumes nothing.
-use Rattle.strips.specs.CoverLaws.{byte_fits}
-use borrow.Author.Rules.{rules}
+use Rattle.std.specs.Prelude.{Bool}
+use Rattle.std.proofs.Common.{sym, ap, ◌∙◌}
+use Rattle.meaning.specs.Numbers.{bit}
+use Rattle.strips.specs.Cover.{turned_to}
+use Rattle.strips.specs.CoverLaws.{turned_on, turned_off}
 use Rattle.strips.proofs.turned.Goals as goal
 
-pub overflow_add-result : goal.overflow_add-result
-overflow_add-result c = let a = c.args in record { fits = byte_fits a.cover a.layer a.d (search rules) c.requires.0 c.requires.1 }
+pub returns-then-covered : goal.returns-then-covered
+returns-then-covered c = turned_on c.args.cover c.args.layer c.requires ∙ sym (ap (λ (b : Bool). turned_to c.args.cover c.args.layer (bit b)) c.if-covered.true)
+
+pub returns-else-covered : goal.returns-else-covered
+returns-else-covered c = turned_off c.args.cover c.args.layer c.ranges.cover.fits c.requires ∙ sym (ap (λ (b : Bool). turned_to c.args.cover c.args.layer (bit b)) c.if-covered.false)

@@ -10,14 +10,14 @@ use Rattle.walking.proofs.work.Goals as goal
 pub rank-requires : goal.rank-requires
 rank-requires c = rank_ready c.requires
 
-pub returns-in_err-nx : goal.returns-in_err-nx
-returns-in_err-nx c =
+pub returns-in_err-nx-clause-walked : goal.returns-in_err-nx-clause-walked
+returns-in_err-nx-clause-walked c =
     let o = unbalanced_says _ c.in_err-nx.ensures.ranked refl in
     let p = err_from_is_err_and c.from_residual.result c.from_residual.ensures.1 in
     rw (p.1, p.2) (stopped c.args.edges.now c.args.text.now c.args.out.now NotClosed (open_call c.args.edges.now c.args.text.now c.requires.judged o.not_closed))
 
-pub returns-in_err-judge : goal.returns-in_err-judge
-returns-in_err-judge c =
+pub returns-in_err-judge-clause-walked : goal.returns-in_err-judge-clause-walked
+returns-in_err-judge-clause-walked c =
     let b = balanced_says _ c.in_ok-nx.ensures.ranked refl in
     let p = err_from_is_err_and c.from_residual-in_err-judge.result c.from_residual-in_err-judge.ensures.1 in
     rw (p.1, p.2) (text_stopped c.args.edges.now c.args.text.now c.requires.judged c.args.out.now b.closed _ c.in_err-judge.ensures)
@@ -38,8 +38,8 @@ sweep-found-requires c =
     let K = call_ready c.requires b c.rank.ensures.long_ends.0 c.rank.ensures.long_ends.1 c.in_ok-judge.ensures c.table-truth.ensures in
     sweep_ready K (still_fresh c.requires.fresh b.still) _ _ (omega (arith, c.rank.ensures.long_edges.1, c.requires.as_ys, c.requires.strips, c.requires.rows_few)) (omega (arith, c.rank.ensures.long_edges.0, c.rank.ensures.long_edges.1, c.requires.as_layers, c.requires.as_ys)) (omega (arith, c.rank.ensures.long_edges.1, c.rank.auto.ws, c.requires.as_ys, c.requires.as_words)) (omega (arith, c.rank.ensures.long_edges.1, c.rank.auto.room, c.requires.as_ys, c.requires.as_room))
 
-pub returns : goal.returns
-returns c =
+pub returns-clause-walked : goal.returns-clause-walked
+returns-clause-walked c =
     let b = balanced_says _ c.in_ok-nx.ensures.ranked refl in
     let K = call_ready c.requires b c.rank.ensures.long_ends.0 c.rank.ensures.long_ends.1 c.in_ok-judge.ensures c.table-truth.ensures in
-    sweep_told K c.sweep-found.ensures (omega (arith, c.sweep-found.type_inv))
+    sweep_told K c.sweep-found.ensures.swept (omega (arith, c.sweep-found.type_inv))

@@ -2,12 +2,13 @@
 use mathlib.Core.Path.{refl, ◌∙◌}
 use native.Mathlib.Nat.{sub-zero}
 use native.Mathlib.Omega.{arith}
+use Rattle.strips.specs.Lent.{lent_on}
 use Rattle.writing.specs.Loops.{fill_ready, rewriting_start, repart_low, repart_sum, rewriting_part, rewriting_more, rewriting_done}
 use borrow.Author.Rules.{rules}
 use Rattle.writing.proofs.again.Goals as goal
 
 pub loop-g-init : goal.loop-g-init
-loop-g-init c = record { rewriting = rewriting_start c.requires; long = refl; counts = refl; covers = refl }
+loop-g-init c = record { rewriting = rewriting_start c.requires; long = refl; lent = (refl, refl) }
 
 pub fill-f-requires : goal.fill-f-requires
 fill-f-requires c = let S = c.loop-g.invariant.rewriting in fill_ready S.given S.at S.room S.rows
@@ -32,8 +33,7 @@ pub loop-g-preserved : goal.loop-g-preserved
 loop-g-preserved c = record {
   rewriting = rewriting_more c.loop-g.invariant.rewriting c.fill-f.ensures.filled (rw sub-zero at c.put.ensures) (omega (arith, c.fill-f.ensures.long.1, c.loop-g.invariant.rewriting.rows)) (omega (arith, c.put.auto.cs));
   long = c.fill-f.ensures.long.0 ∙ c.loop-g.invariant.long;
-  counts = c.fill-f.ensures.lent.0 ∙ c.loop-g.invariant.counts;
-  covers = c.fill-f.ensures.lent.1 ∙ c.loop-g.invariant.covers;
+  lent = lent_on c.loop-g.invariant.lent c.fill-f.ensures.lent;
 }
 
 pub returns-clause-written : goal.returns-clause-written

@@ -1,13 +1,6 @@
-use mathlib.Core.Path.{◌≡◌}
-use Prim.Native.Nat.{◌+◌}
-use lib.ListN.{length, take}
-use Rattle.printed_laws.specs.Stores.{Written}
+use lib.ListN.{take}
+use Rattle.numerals.specs.Stored.{Stored}
 use Rattle.numerals.proofs.Writer.word.Given as goal
 
 abbrev pub invariant-loop-b : goal.invariant-loop-b
-invariant-loop-b l = record {
-  same_buffer : l.self.out.ghost_name ≡ l.initial.self.out.ghost_name;
-  same_length : length l.self.out.now ≡ length l.initial.self.out.now;
-  place : l.self.at ≡ l.initial.self.at + l.b-index;
-  written : Written l.initial.self.out.now l.initial.self.at (take l.b-index l.w) l.self.out.now l.self.at;
-}
+invariant-loop-b l = Stored l.initial.self (take l.b-index l.w) l.self

@@ -1,0 +1,2 @@
+-- What the contracts of `numerals` cite, and its laws.
+pub mod Stored
