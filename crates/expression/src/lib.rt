@@ -60,6 +60,16 @@ pub fn judge(text: &[u8]) -> Result<(), Refusal>
     Ok(())
 }
 
+// The number of the answer to a judged text: 0 where it is accepted, else that of the refusal.
+pub fn number(judged: Result<(), Refusal>) -> u64
+    ensures { result ≡ (verdict judged).number }
+{
+    match judged {
+        Ok(_) => 0,
+        Err(refusal) => refusal.number(),
+    }
+}
+
 // The value where the layers that cover are handed, and false where the text is not in the grammar.
 fn value(text: &[u8], handed: readers::Handed) -> bool
     ensures { Entry text.now (cover_of handed) result }
@@ -80,6 +90,9 @@ fn stands(text: &[u8], b: u8) -> bool
 
 // One layer more: the covers without it, which come before, have their entries, and those with it get theirs. Where its letter does
 // not stand in the text, an entry with the layer is the one without it, and nothing is read. A layer is a number below 8: see `strips::turned`.
+//
+// It is not inlined: so the table is filled where the caller of `table` wants it, and no copy of it is made, nor kept on the stack.
+#[inline(never)]
 fn add_layer(text: &[u8], truth: &mut [bool; COVERS], layer: u8)
     requires { (layer < 8) × Filled text.now (2 ^ layer) truth.old }
     ensures { Filled text.now (2 ^ (layer + 1)) truth.new }

@@ -73,15 +73,17 @@ fn factor(text: &[u8], at: usize, handed: Handed) -> Piece
     let Some(&b) = text.get(at) else {
         return None;
     };
+    // One place for the answers that are opened, here and in `product` and `sum`: a `let` for each takes 24 bytes of the stack more, at every `!` and `(`.
+    let r;
     if b == b'!' {
-        let r = factor(text, at + 1, handed);
+        r = factor(text, at + 1, handed);
         let Some((v, next)) = r else {
             return r;
         };
         return Some((!v, next));
     }
     if b == b'(' {
-        let r = sum(text, at + 1, handed);
+        r = sum(text, at + 1, handed);
         let Some((v, next)) = r else {
             return r;
         };
@@ -90,7 +92,12 @@ fn factor(text: &[u8], at: usize, handed: Handed) -> Piece
         };
         return Some((v, next + 1));
     }
-    letter(text, at, handed)
+    // A letter's answer is opened too, and its value given anew. As it is it would be copied with the bytes that lie between its fields, and reading takes half as long again.
+    r = letter(text, at, handed);
+    let Some((v, next)) = r else {
+        return r;
+    };
+    Some((v, next))
 }
 
 // `product` and `sum` stay two functions. A rule of the project: the specification, under "The form each place takes", names readers of a sum, a product and a factor that call each other.
@@ -100,9 +107,9 @@ fn factor(text: &[u8], at: usize, handed: Handed) -> Piece
 fn product(text: &[u8], at: usize, handed: Handed) -> Piece
     ensures { result ≡ reads_as (cover_of handed) text.now a_product at }
 {
-    let first = factor(text, at, handed);
-    let Some((lead, after)) = first else {
-        return first;
+    let mut r = factor(text, at, handed);
+    let Some((lead, after)) = r else {
+        return r;
     };
     let mut v = lead;
     let mut i = after;
@@ -110,7 +117,7 @@ fn product(text: &[u8], at: usize, handed: Handed) -> Piece
         if !is_tight(op) {
             return Some((v, i));
         }
-        let r = factor(text, i + 1, handed);
+        r = factor(text, i + 1, handed);
         let Some((w, next)) = r else {
             return r;
         };
@@ -125,9 +132,9 @@ fn product(text: &[u8], at: usize, handed: Handed) -> Piece
 fn sum(text: &[u8], at: usize, handed: Handed) -> Piece
     ensures { result ≡ reads_as (cover_of handed) text.now a_sum at }
 {
-    let first = product(text, at, handed);
-    let Some((lead, after)) = first else {
-        return first;
+    let mut r = product(text, at, handed);
+    let Some((lead, after)) = r else {
+        return r;
     };
     let mut v = lead;
     let mut i = after;
@@ -135,7 +142,7 @@ fn sum(text: &[u8], at: usize, handed: Handed) -> Piece
         if !is_loose(op) {
             return Some((v, i));
         }
-        let r = product(text, i + 1, handed);
+        r = product(text, i + 1, handed);
         let Some((w, next)) = r else {
             return r;
         };

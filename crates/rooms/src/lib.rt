@@ -20,6 +20,9 @@ const FEW: usize = 256;
 const MOST: usize = 4096;
 
 // The walk of a list of at most EDGES edges, with arrays of that size: ENDS, COUNTS and WORDS are how many ends, counts and words they have room for.
+//
+// It is not inlined: so the arrays are on the stack only where a list is walked, and not where it was refused before; and a short list takes small ones alone.
+#[inline(never)]
 fn within<const EDGES: usize, const ENDS: usize, const COUNTS: usize, const WORDS: usize>(
     edges: &[i32],
     text: &[u8],

@@ -6,14 +6,6 @@ use console::Console;
 use std::fmt;
 use std::fmt::Write;
 
-// The number of the answer to a text as an expression.
-fn number(text: &[u8]) -> u64 {
-    match expression::judge(text) {
-        Ok(()) => 0,
-        Err(refusal) => refusal.number(),
-    }
-}
-
 // The sum of m + 1 over the covers m at which the table holds.
 fn sum_of_covers(truth: &[bool; 256]) -> u64 {
     // The loop stays: tried as `filter`, `map` and `sum`, and the proof that the sum fits did not close: what the closure adds is not shown to be bounded.
@@ -26,9 +18,15 @@ fn sum_of_covers(truth: &[bool; 256]) -> u64 {
     n
 }
 
+// Writes the line of an answer. It is apart so that the stack that writing wants is not taken while a text is read.
+#[inline(never)]
+fn put(out: &mut Console, number: u64, sum: u64) -> fmt::Result {
+    writeln!(out, "{number} 0 {sum}")
+}
+
 fn answer(out: &mut Console, text: &[u8]) -> fmt::Result {
     let sum = sum_of_covers(&expression::table(text));
-    writeln!(out, "{} 0 {sum}", number(text))
+    put(out, expression::number(expression::judge(text)), sum)
 }
 
 // Each line ends at a line feed, or where the input ends.
