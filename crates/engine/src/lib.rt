@@ -10,6 +10,9 @@ use answers::Refusal;
 use writing::Found;
 
 // What run answers, with its records in the lent buffer, and the inside cells.
+//
+// It is made part of its callers: so a list that is refused here is told so at once, and not by an answer that is copied first.
+#[inline(always)]
 pub fn walk(edges: &[i32], text: &[u8], records: &mut [i32]) -> Result<Found, Refusal>
     ensures { Walks edges.now text.now records.old records.new result }
 {

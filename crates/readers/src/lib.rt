@@ -103,7 +103,10 @@ fn factor(text: &[u8], at: usize, handed: Handed) -> Piece
 // `product` and `sum` stay two functions. A rule of the project: the specification, under "The form each place takes", names readers of a sum, a product and a factor that call each other.
 
 // Reads a product: factors, with `*` and `-` between them, from left to right.
+//
+// It is made part of `sum` by the compiler: so most letters are read with one call and one answer less, and a `(` takes less of the stack.
 #[cycle(factor_product_sum)]
+#[inline(always)]
 fn product(text: &[u8], at: usize, handed: Handed) -> Piece
     ensures { result ≡ reads_as (cover_of handed) text.now a_product at }
 {
