@@ -222,7 +222,7 @@ module _ (f : List ℕ) (out₀ : List ℤ) (s : State) (at n : ℕ) (out : List
 
     pub reads_refused : (after-out : List ℤ) → RingsOutcome f out₀ r after-out
     reads_refused after-out =
-        inl (refuses_read (RingFault five limit f) r g q (record { begun = w.begun; front = w.front; rest = drop at f; is = w.is; begins = w.file; due = due }))
+        inl (refuses_read answer_of (RingFault five limit f) r g q (record { begun = w.begun; front = w.front; rest = drop at f; is = w.is; begins = w.file; due = due }))
 
   -- ---- the end
 
@@ -247,4 +247,4 @@ module _ (f : List ℕ) (out₀ : List ℤ) (s : State) (at n : ℕ) (out : List
 
     pub reads_short : may_end s.due ≡ false → RingsOutcome f out₀ (Err (EndsInside (length f))) out
     reads_short e =
-        inl (refuses (RingFault five limit f) (EndsInside (length f)) (record { begun = w.begun; front = w.front; rest = drop at f; is = w.is; begins = w.file; due = inl ((subst⁻¹ (Cut five) nothing_left (record { continued = tt; short = lit≤ tt }), λ d z. not_end w.begun d (subst (λ (t : State). may_end t.due ≡ false) w.state e)), refl) }))
+        inl (refuses answer_of (RingFault five limit f) (EndsInside (length f)) (record { begun = w.begun; front = w.front; rest = drop at f; is = w.is; begins = w.file; due = inl ((subst⁻¹ (Cut five) nothing_left (record { continued = tt; short = lit≤ tt }), λ d z. not_end w.begun d (subst (λ (t : State). may_end t.due ≡ false) w.state e)), refl) }))

@@ -61,7 +61,7 @@ module _ (f : List ℕ) (out : List ℤ) (r : Reading) (e : r ≡ reading (lengt
 
     pub edition_other : (after : List ℤ) → (v ≡ 1 → ⊥) → FileOutcome f out (Err OtherEdition) after
     edition_other after n =
-        inl (refuses (FileFault five limit f) OtherEdition (inr (not_cut, inr (not_bad, inl ((v, record { rest = here.rest; is = here.is; fits = here.fits }, n), refl)))))
+        inl (refuses answer_of (FileFault five limit f) OtherEdition (inr (not_cut, inr (not_bad, inl ((v, record { rest = here.rest; is = here.is; fits = here.fits }, n), refl)))))
 
     pub begins_one : v ≡ 1 → (next ≡ length (spelt five 1)) × ((f ≡ spelt five 1 ++ drop next f) × (next ≤ length f))
     begins_one i =

@@ -1,2 +1,3 @@
--- Laws of the readers and the writer, by the tests that the code makes.
+-- Laws of the readers and the writer, by the tests that the code makes, and of what is handed on.
 pub mod Groups
+pub mod Handed

@@ -1,13 +1,15 @@
 // The number code of a mask file: groups of seven bits, least group first.
 #![tactic(auto)]
 
-ghost use Rattle.std.specs.Prelude.{◌≡◌, ◌+◌, ◌≤◌, ◌<◌, length, drop, set};
+ghost use Rattle.std.specs.Prelude.{◌≡◌, ℕ, ◌+◌, ◌≤◌, ◌<◌, length, drop, set};
 ghost use Rattle.std.proofs.lemmas.List.Edits.{sets};
+ghost use Rattle.meaning.specs.Answers.{room_too_short};
 ghost use Rattle.meaning.specs.MaskFile.{spelt, most};
+ghost use Rattle.answers.specs.declared.Refusal.TheVariants.{RoomTooShort};
 ghost use Rattle.ring_laws.specs.Groups.{front};
 ghost use Rattle.numbers.specs.Reading.{settled_of, reading};
 
-use answers::Refusal;
+use answers::{Answer, Refusal};
 
 // At most five groups make a number.
 pub const GROUPS: u64 = 5;
@@ -22,15 +24,45 @@ pub struct Number {
     pub next: usize,
 }
 
+// A type of refusals, one of which says that the room is too short, and what is needed.
+pub trait Short {
+    ghost short: { ℕ → Self };
+
+    // That refusal.
+    fn short(needed: u64) -> Self
+        ensures { result ≡ short needed };
+}
+
+impl Short for Refusal {
+    ghost short = { RoomTooShort };
+
+    fn short(needed: u64) -> Refusal {
+        Refusal::RoomTooShort(needed)
+    }
+}
+
+impl Short for Answer {
+    ghost short = { λ needed. record { number = (room_too_short needed).number; value = (room_too_short needed).value } };
+
+    fn short(needed: u64) -> Answer {
+        Answer {
+            number: 18,
+            value: needed,
+        }
+    }
+}
+
 // What a call may go on with, whose result has this room: a refusal as it is, 18 with what is needed where the room is too short, else what was judged.
+//
+// What may not change: it hands on any refusal, not those of the table alone, and a narrower type would ask more of its callers.
 #[tactic(auto, unfolding(crate::specs::Reading::settled_of))]
-pub fn settled(judged: Result<Number, Refusal>, room: usize) -> Result<Number, Refusal>
-    ensures { result ≡ settled_of judged room }
+pub fn settled<F: Short>(judged: Result<Number, F>, room: usize) -> Result<Number, F>
+    ensures { result ≡ settled_of F.short judged room }
 {
     let read = judged?;
     let needed = read.value;
     if (room as u64) < needed {
-        return Err(Refusal::RoomTooShort(needed));
+        return Err(F::short(needed));
     }
     Ok(read)
 }

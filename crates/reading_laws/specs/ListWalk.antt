@@ -7,13 +7,13 @@
 --   list_at_next      one number further
 --   list_refused      a refusal on the way
 --   list_over, list_short   the end of the list
-use Rattle.std.specs.Prelude.{◌≡◌, refl, None, Err, true, false, List, [], ◌∷◌, ◌++◌, ℕ, suc, ◌+◌, ◌-◌, ◌≤◌, ◌<◌, ℤ, pos, negsuc, length, get_or, take, drop}
+use Rattle.std.specs.Prelude.{◌≡◌, refl, None, Result, Ok, Err, true, false, List, [], ◌∷◌, ◌++◌, ℕ, suc, ◌+◌, ◌-◌, ◌≤◌, ◌<◌, ℤ, pos, negsuc, length, get_or, take, drop}
 use Rattle.std.proofs.Common.{sym, ap, ap₂, subst, ◌∙◌, inl, inr, arith, add-one, lit≤, take-append-drop, drop_of_length-le, take-suc, take_all, drop-cons, length-take-le, lt-ltb, le-ltb}
 use Rattle.std.proofs.Math.Path.{subst⁻¹}
 use Rattle.std.proofs.lemmas.Bool.{false≢true}
 use Rattle.basic_laws.specs.Signed.{key_of}
 use Rattle.meaning.specs.Numbers.{limit}
-use Rattle.meaning.specs.Answers.{ends_inside}
+use Rattle.meaning.specs.Answers.{Answer, ends_inside, ring_out_of_range}
 use Rattle.answers.specs.Told.{answer_of}
 use Rattle.answers.specs.declared.Refusal.{Refusal}
 use Rattle.answers.specs.declared.Refusal.TheVariants.{RingOutOfRange}
@@ -22,7 +22,8 @@ use Rattle.meaning.specs.Faults.{Begun, at_layer, at_count, at_x, at_y, after, B
 use Rattle.ring_laws.specs.Groups.{clash}
 use Rattle.ring_laws.specs.Beginnings.{Fine, Good, good_begins}
 use Rattle.ring_laws.specs.Forms.{list_begins}
-use Rattle.numbers.specs.Reading.{Reading, Value}
+use Rattle.numbers.specs.Reading.{Reading, Value, in_numbers}
+use Rattle.numbers.specs.declared.Number.{Number}
 use Rattle.rings.specs.State.{start, is_coordinate, may_end, fault_of, next_of, judged_as, due_in_list, Sane}
 use Rattle.reading_laws.specs.StateOf.{state_of, keyed}
 use Rattle.rings.specs.declared.State.{State}
@@ -76,20 +77,25 @@ module _ (b : Begun) (z : ℤ) (i : ℕ) (g : Good limit b) where
       go (below c n q u h) = let w : Err (RingOutOfRange i) ≡ Value v next = rw (c, lt-ltb (key_of z) 2147483648 h) at e in clash (cc)
       go (above c u h k) = whole u (rw k (rw (c, le-ltb (key_of z) 2147483648 h) at e))
 
-  due_refused : (r : Refusal) → due_in_list limit (state_of b) (key_of z) i ≡ Err r → DueJudged limit b z i (answer_of r)
+  due_refused : (a : Answer) → in_numbers answer_of (due_in_list limit (state_of b) (key_of z) i) ≡ Err a → DueJudged limit b z i a
   unfolding due_in_list
-  due_refused r e = go (sign b z)
+  due_refused a e = go (sign b z)
     where
-      whole : Natural b z → judged_as limit (state_of b) (keyed b z) i (i + 1) ≡ Err r → DueJudged limit b z i (answer_of r)
-      whole u q =
-          let j = judged_refused limit (state_of b) (keyed b z) i (i + 1) r q in
-          subst⁻¹ (λ (f : Refusal). DueJudged limit b z i (answer_of f)) j.2 ((verdict limit (lit≤ tt) b z i g u).refused j.0 j.1)
+      told : (r : Reading) → in_numbers answer_of r ≡ Err a → (f : Refusal) × (r ≡ Err f) × (a ≡ answer_of f)
+      told (Ok n) q = clash (cc)
+      told (Err f) q = (f, refl, cc)
 
-      go : Sign b z → DueJudged limit b z i (answer_of r)
+      whole : Natural b z → in_numbers answer_of (judged_as limit (state_of b) (keyed b z) i (i + 1)) ≡ Err a → DueJudged limit b z i a
+      whole u q =
+          let t = told (judged_as limit (state_of b) (keyed b z) i (i + 1)) q in
+          let j = judged_refused limit (state_of b) (keyed b z) i (i + 1) t.0 t.1 in
+          subst⁻¹ (DueJudged limit b z i) (t.2 ∙ ap answer_of j.2) ((verdict limit (lit≤ tt) b z i g u).refused j.0 j.1)
+
+      go : Sign b z → DueJudged limit b z i a
       go (coordinate c k u) = whole u (rw k (rw c at e))
       go (below c n q u h) =
-          let w : Err (RingOutOfRange i) ≡ Err r = rw (c, lt-ltb (key_of z) 2147483648 h) at e in
-          let x : r ≡ RingOutOfRange i = cc in
+          let w : ◌≡◌ {A = Result Number Answer} (Err (ring_out_of_range i)) (Err a) = rw (c, lt-ltb (key_of z) 2147483648 h) at e in
+          let x : a ≡ ring_out_of_range i = cc in
           rw (q, x) (negative limit b n i u)
       go (above c u h k) = whole u (rw k (rw (c, le-ltb (key_of z) 2147483648 h) at e))
 
@@ -102,8 +108,8 @@ module _ (ns : List ℤ) (b : Begun) (s : State) (i : ℕ) (w : ListAt ns b s i)
   pub list_sane : Sane s
   list_sane = subst⁻¹ Sane w.state (sane b good)
 
-  here : (r x : Reading) → r ≡ due_in_list limit s (key_of (get_or ns i (pos 0))) i → r ≡ x → due_in_list limit (state_of b) (key_of (get_or ns i (pos 0))) i ≡ x
-  here r x e q = sym (ap (λ (t : State). due_in_list limit t (key_of (get_or ns i (pos 0))) i) w.state) ∙ sym e ∙ q
+  here : {A : Type 0} (told : Reading → A) (r x : A) → r ≡ told (due_in_list limit s (key_of (get_or ns i (pos 0))) i) → r ≡ x → told (due_in_list limit (state_of b) (key_of (get_or ns i (pos 0))) i) ≡ x
+  here told r x e q = sym (ap (λ (t : State). told (due_in_list limit t (key_of (get_or ns i (pos 0))) i)) w.state) ∙ sym e ∙ q
 
   module _ (lt : i < length ns) where
     take_next : take (i + 1) ns ≡ take i ns ++ get_or ns i (pos 0) ∷ []
@@ -111,7 +117,7 @@ module _ (ns : List ℤ) (b : Begun) (s : State) (i : ℕ) (w : ListAt ns b s i)
 
     module _ (r : Reading) (v next : ℕ) (e : r ≡ due_in_list limit s (key_of (get_or ns i (pos 0))) i) (q : r ≡ Value v next) where
       pub passed : Passed b (get_or ns i (pos 0)) i v next
-      passed = due_value b (get_or ns i (pos 0)) i good v next (here r (Value v next) e q)
+      passed = due_value b (get_or ns i (pos 0)) i good v next (here (λ (x : Reading). x) r (Value v next) e q)
 
       pub list_fault_free : fault_of limit s v ≡ None
       list_fault_free = subst⁻¹ (λ (t : State). fault_of limit t v ≡ None) w.state passed.fault
@@ -124,15 +130,15 @@ module _ (ns : List ℤ) (b : Begun) (s : State) (i : ℕ) (w : ListAt ns b s i)
             within = omega (arith, passed.place);
           }
 
-    pub list_refused : (r : Reading) (f : Refusal) → r ≡ due_in_list limit s (key_of (get_or ns i (pos 0))) i → r ≡ Err f → ListFault limit ns (answer_of f)
-    list_refused r f e q =
+    pub list_refused : (r : Result Number Answer) (a : Answer) → r ≡ in_numbers answer_of (due_in_list limit s (key_of (get_or ns i (pos 0))) i) → r ≡ Err a → ListFault limit ns a
+    list_refused r a e q =
         record {
           begun = b;
           front = take i ns;
           rest = drop i ns;
           is = sym (take-append-drop i ns);
           begins = w.list;
-          due = inr (λ a j. nonempty j.0.0, (get_or ns i (pos 0), drop (suc i) ns, drop-cons ns i (pos 0) lt, rw (length-take-le i ns w.within) (due_refused b (get_or ns i (pos 0)) i good f (here r (Err f) e q))));
+          due = inr (λ a j. nonempty j.0.0, (get_or ns i (pos 0), drop (suc i) ns, drop-cons ns i (pos 0) lt, rw (length-take-le i ns w.within) (due_refused b (get_or ns i (pos 0)) i good a (here (in_numbers answer_of) r (Err a) e q))));
         }
       where
         nonempty : drop i ns ≡ [] → ⊥

@@ -1,4 +1,5 @@
--- A call goes through its input twice: with no room, and into the buffer that it is lent. Its table by the outcomes. Assumes nothing.
+-- A call goes through its input twice: with no room, and into the buffer that it is lent. Its table by the outcomes. Over any refusals, by how they are told.
+-- Assumes nothing.
 --
 --   refuses, refuses_read    a reader's refusal by a table
 --   Table ..                 what the table T of a call says of a fault, and of good rings
@@ -22,18 +23,15 @@ use Rattle.meaning.specs.Faults.{FileFault, ListFault, Laid, Read, OfList}
 use Rattle.ring_laws.specs.Groups.{clash}
 use Rattle.ring_laws.specs.Meet.{list_fault_none, one_list, one_file}
 use Rattle.ring_laws.specs.Calls.{holds, some, file_fault_none, read_fault, read_laid, list_fault, list_laid, laid_short, laid_done}
-use Rattle.answers.specs.Told.{answer_of, told}
-use Rattle.answers.specs.declared.Refusal.{Refusal}
-use Rattle.answers.specs.declared.Refusal.TheVariants.{RoomTooShort}
-use Rattle.numbers.specs.Reading.{Reading, Value, settled_of, Refuses}
+use Rattle.numbers.specs.Reading.{found, settled_of, Refuses}
 use Rattle.numbers.specs.declared.Number.{Number}
 use Rattle.reading_laws.specs.Outcome.{Made, Outcome}
 
-pub refuses : (Fault : Row Answer) (f : Refusal) → Fault (answer_of f) → Refuses Fault (Err f)
-refuses Fault f x = record { refusal = f; is = refl; fault = x }
+pub refuses : {F : Type 0} (tell : F → Answer) (Fault : Row Answer) (f : F) → Fault (tell f) → Refuses tell Fault (Err f)
+refuses tell Fault f x = record { refusal = f; is = refl; fault = x }
 
-pub refuses_read : (Fault : Row Answer) (r : Reading) (f : Refusal) → r ≡ Err f → Fault (answer_of f) → Refuses Fault r
-refuses_read Fault r f q x = record { refusal = f; is = q; fault = x }
+pub refuses_read : {F : Type 0} (tell : F → Answer) (Fault : Row Answer) (r : Result Number F) (f : F) → r ≡ Err f → Fault (tell f) → Refuses tell Fault r
+refuses_read tell Fault r f q x = record { refusal = f; is = q; fault = x }
 
 -- ---- the tables
 
@@ -63,41 +61,41 @@ file_table f out h =
 
 -- ---- a refusal that is handed on
 
-handed : (a : Result ℕ Refusal) (g h : Refusal) → a ≡ Err g → ◌≡◌ {A = Reading} (Err g) (Err h) → a ≡ Err h
-handed a g h s q = let i : g ≡ h = cc in s ∙ ap Err i
+handed : {F : Type 0} (tell : F → Answer) (a : Answer) (g h : F) → a ≡ tell g → ◌≡◌ {A = Result Number F} (Err g) (Err h) → a ≡ tell h
+handed tell a g h s q = let i : g ≡ h = cc in s ∙ ap tell i
 
--- ---- a call: r is the outcome with no room, and j what the call goes on with
+-- ---- a call: r is the outcome with no room, j what the call goes on with, and too_short its refusal where the room is too short, which tells 18
 
-module _ {B C : Type 0} {Fault : Row Answer} {form : List Ring → List C} {make : List Ring → List B} {f : List C} {out : List B} {T : Row (Answer × List B)} (t : Table Fault form make f out T) (none none' : List B) (r j : Reading) (o : Outcome Fault form make f none r none') (e : j ≡ settled_of r (length out)) where
+module _ {B C F : Type 0} {tell : F → Answer} (too_short : ℕ → F) (tells : (n : ℕ) → tell (too_short n) ≡ room_too_short n) {Fault : Row Answer} {form : List Ring → List C} {make : List Ring → List B} {f : List C} {out : List B} {T : Row (Answer × List B)} (t : Table Fault form make f out T) (none none' : List B) (r j : Result Number F) (o : Outcome tell Fault form make f none r none') (e : j ≡ settled_of too_short r (length out)) where
   -- the room, after good rings
   module _ (x : Made form make f none r none') where
     needed : ℕ
     needed = length (make x.rings)
 
-    short : length out < needed → j ≡ Err (RoomTooShort needed)
+    short : length out < needed → j ≡ Err (too_short needed)
     unfolding settled_of needed
     short h = e ∙ rw (x.is, lt-ltb (length out) (length (make x.rings)) h)
 
-    enough : needed ≤ length out → j ≡ Value needed (length f)
+    enough : needed ≤ length out → j ≡ Ok (found needed (length f))
     unfolding settled_of needed
     enough h = e ∙ rw (x.is, le-ltb (length out) (length (make x.rings)) h)
 
-  kept : (g : Refusal) → r ≡ Err g → j ≡ Err g
+  kept : (g : F) → r ≡ Err g → j ≡ Err g
   unfolding settled_of
   kept g q = e ∙ rw q
 
-  pub settled_refused : (g : Refusal) (a : Result ℕ Refusal) → j ≡ Err g → a ≡ Err g → T (told a, out)
+  pub settled_refused : (g : F) (a : Answer) → j ≡ Err g → a ≡ tell g → T (a, out)
   unfolding needed
   settled_refused g a q s = go o
     where
-      lies : (x : Made form make f none r none') → Dec (length out < needed x) → T (told a, out)
+      lies : (x : Made form make f none r none') → Dec (length out < needed x) → T (a, out)
       lies x (yes h) =
-          subst⁻¹ (λ (b : Result ℕ Refusal). T (told b, out)) (handed a g (RoomTooShort (needed x)) s (sym q ∙ short x h))
+          subst⁻¹ (λ (b : Answer). T (b, out)) (handed tell a g (too_short (needed x)) s (sym q ∙ short x h) ∙ tells (needed x))
           (t.laid x.rings (room_too_short (needed x), out) x.good x.from (laid_short (make x.rings) out h))
-      lies x (no h) = let w : Value (needed x) (length f) ≡ Err g = sym (enough x (omega arith)) ∙ q in clash (cc)
+      lies x (no h) = let w : Ok (found (needed x) (length f)) ≡ Err g = sym (enough x (omega arith)) ∙ q in clash (cc)
 
-      go : Outcome Fault form make f none r none' → T (told a, out)
-      go (inl x) = subst⁻¹ (λ (b : Result ℕ Refusal). T (told b, out)) (handed a g x.refusal s (sym q ∙ kept x.refusal x.is)) (t.faulty (answer_of x.refusal) x.fault)
+      go : Outcome tell Fault form make f none r none' → T (a, out)
+      go (inl x) = subst⁻¹ (λ (b : Answer). T (b, out)) (handed tell a g x.refusal s (sym q ∙ kept x.refusal x.is)) (t.faulty (tell x.refusal) x.fault)
       go (inr x) = lies x (dec_lt (length out) (needed x))
 
   module _ (m : Number) (q : j ≡ Ok m) where
@@ -105,24 +103,24 @@ module _ {B C : Type 0} {Fault : Row Answer} {form : List Ring → List C} {make
     first = go o
       where
         lies : (x : Made form make f none r none') → Dec (length out < needed x) → (x : Made form make f none r none') × (needed x ≤ length out)
-        lies x (yes h) = let w : Err (RoomTooShort (needed x)) ≡ Ok m = sym (short x h) ∙ q in clash (cc)
+        lies x (yes h) = let w : Err (too_short (needed x)) ≡ Ok m = sym (short x h) ∙ q in clash (cc)
         lies x (no h) = (x, omega arith)
 
-        go : Outcome Fault form make f none r none' → (x : Made form make f none r none') × (needed x ≤ length out)
+        go : Outcome tell Fault form make f none r none' → (x : Made form make f none r none') × (needed x ≤ length out)
         go (inl x) = let w : Err x.refusal ≡ Ok m = sym (kept x.refusal x.is) ∙ q in clash (cc)
         go (inr x) = lies x (dec_lt (length out) (needed x))
 
     -- s is the outcome in the buffer lent
-    module _ (s : Reading) (a : Result ℕ Refusal) (after : List B) where
-      pub made_refused : (g : Refusal) → Outcome Fault form make f out s after → s ≡ Err g → T (told a, after)
-      made_refused g (inl x) z = absurd (t.sound first.0.rings first.0.good first.0.from (answer_of x.refusal) x.fault)
-      made_refused g (inr x) z = let w : Value (length (make x.rings)) (length f) ≡ Err g = sym x.is ∙ z in clash (cc)
+    module _ (s : Result Number F) (a : Answer) (after : List B) where
+      pub made_refused : (g : F) → Outcome tell Fault form make f out s after → s ≡ Err g → T (a, after)
+      made_refused g (inl x) z = absurd (t.sound first.0.rings first.0.good first.0.from (tell x.refusal) x.fault)
+      made_refused g (inr x) z = let w : Ok (found (length (make x.rings)) (length f)) ≡ Err g = sym x.is ∙ z in clash (cc)
 
-      pub made_done : (n : Number) → Outcome Fault form make f out s after → s ≡ Ok n → a ≡ Ok n.value → T (told a, after)
+      pub made_done : (n : Number) → Outcome tell Fault form make f out s after → s ≡ Ok n → a ≡ accepted n.value → T (a, after)
       unfolding needed
-      made_done n (inl x) z i = absurd (t.sound first.0.rings first.0.good first.0.from (answer_of x.refusal) x.fault)
+      made_done n (inl x) z i = absurd (t.sound first.0.rings first.0.good first.0.from (tell x.refusal) x.fault)
       made_done n (inr x) z i =
-          let w : Ok n ≡ Value (length (make x.rings)) (length f) = sym z ∙ x.is in
+          let w : Ok n ≡ Ok (found (length (make x.rings)) (length f)) = sym z ∙ x.is in
           let v : n.value ≡ length (make x.rings) = cc in
           let k : first.0.rings ≡ x.rings = t.one first.0.rings x.rings first.0.good x.good (sym first.0.from ∙ x.from) in
           let h : length (make x.rings) ≤ length out = omega (arith, first.1, ap (λ (rs : List Ring). length (make rs)) k) in

@@ -13,9 +13,10 @@ use Rattle.meaning.specs.Numbers.{limit}
 use Rattle.meaning.specs.Rings.{Ring}
 use Rattle.meaning.specs.Faults.{Begun, at_layer, after, ListFault}
 use Rattle.ring_laws.specs.Beginnings.{good_begins}
+use Rattle.answers.specs.Told.{answer_of}
 use Rattle.answers.specs.declared.Refusal.{Refusal}
 use Rattle.answers.specs.declared.Refusal.TheVariants.{EndsInside}
-use Rattle.numbers.specs.Reading.{Reading, Value}
+use Rattle.numbers.specs.Reading.{Reading, Value, in_numbers}
 use Rattle.rings.specs.State.{start, may_end, fault_of, next_of, due_in_list}
 use Rattle.rings.specs.declared.State.{State}
 use Rattle.reading_laws.specs.Outcome.{ListOutcome}
@@ -64,7 +65,7 @@ module _ {B : Type 0} {Begins : Begun → List B → Type 0} {adds : State → �
 
   pub walks_refused : (lt : i < length ns) (r : Reading) (f : Refusal) (after-out : List B) → r ≡ due_in_list limit s (key_of (get_or ns i (pos 0))) i → r ≡ Err f → ListOutcome make ns out₀ r after-out
   walks_refused lt r f after-out e x =
-      inl (refuses_read (ListFault limit ns) r f x (list_refused ns w.begun s i w.at lt r f e x))
+      inl (refuses_read answer_of (ListFault limit ns) r f x (list_refused ns w.begun s i w.at lt (in_numbers answer_of r) (answer_of f) (ap (in_numbers answer_of) e) (ap (in_numbers answer_of) x)))
 
   module _ (over : length ns ≤ i) where
     pub walks_fine : may_end s.due ≡ true → ListOutcome make ns out₀ (Value n (length ns)) out
@@ -74,4 +75,4 @@ module _ {B : Type 0} {Begins : Begun → List B → Type 0} {adds : State → �
         inr (record { rings = x.0; good = x.2; from = x.3; is = ap₂ Value (w.count ∙ ap length g) refl; wrote = w.wrote ∙ ap (sets out₀ 0) g })
 
     pub walks_short : may_end s.due ≡ false → ListOutcome make ns out₀ (Err (EndsInside (length ns))) out
-    walks_short e = inl (refuses (ListFault limit ns) (EndsInside (length ns)) (list_short ns w.begun s i w.at over e))
+    walks_short e = inl (refuses answer_of (ListFault limit ns) (EndsInside (length ns)) (list_short ns w.begun s i w.at over e))
