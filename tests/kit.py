@@ -29,6 +29,13 @@ def program():
     return os.path.join(ROOT, 'crates', 'laukavesp', 'out', 'laukavesp')
 
 
+def example(name):
+    """A program that runs examples, proved and built."""
+    crate = os.path.join(ROOT, 'crates', name)
+    tool('rt', 'run', cwd=crate)
+    return os.path.join(crate, 'out', name)
+
+
 def link(program, *files):
     tool(os.path.join(HOME, 'bin', 'rattle-link'), '--target', TARGET, '--toolchain', TOOLS, '-o', program, *files)
 
