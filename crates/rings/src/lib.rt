@@ -95,11 +95,14 @@ struct Axis {
 }
 
 impl Axis {
-    // Is v equal to the coordinate of a cyclic neighbour before it?
+    // Is v equal to the coordinate of a cyclic neighbour before it? For speed the first pair is asked about apart, and `&` makes no jump.
     fn meets(self, v: u64) -> bool
         ensures { result ≡ meets self.fresh self.more v self.before self.first }
     {
-        !self.fresh && (v == self.before || self.more == 0 && v == self.first)
+        if self.more == 0 && v == self.first {
+            return !self.fresh;
+        }
+        !self.fresh & (v == self.before)
     }
 
     // The ring's first coordinate, once v is read.
@@ -255,11 +258,11 @@ fn number(list: &[i32], i: usize) -> u32
     whole::key(list[i])
 }
 
-// Is the due number an x or a y?
+// Is the due number an x or a y? For speed by what it is not, which takes one compare.
 pub fn is_coordinate(due: Due) -> bool
     ensures { result ≡ is_coordinate due }
 {
-    matches!(due, Due::X | Due::Y)
+    !matches!(due, Due::Layer | Due::Count)
 }
 
 // The due number of a ring list, which stands at i.
