@@ -95,12 +95,12 @@ struct Axis {
 }
 
 impl Axis {
-    // Is v equal to the coordinate of a cyclic neighbour before it? For speed the first pair is asked about apart, and `&` makes no jump.
+    // Is v equal to the coordinate of a cyclic neighbour before it? For speed `&` and `|`, which make no jump.
     fn meets(self, v: u64) -> bool
         ensures { result ≡ meets self.fresh self.more v self.before self.first }
     {
-        if self.more == 0 && v == self.first {
-            return !self.fresh;
+        if self.more == 0 {
+            return !self.fresh & ((v == self.before) | (v == self.first));
         }
         !self.fresh & (v == self.before)
     }
@@ -258,11 +258,11 @@ fn number(list: &[i32], i: usize) -> u32
     whole::key(list[i])
 }
 
-// Is the due number an x or a y? For speed by what it is not, which takes one compare.
+// Is the due number an x or a y?
 pub fn is_coordinate(due: Due) -> bool
     ensures { result ≡ is_coordinate due }
 {
-    !matches!(due, Due::Layer | Due::Count)
+    matches!(due, Due::X | Due::Y)
 }
 
 // The due number of a ring list, which stands at i.
@@ -272,13 +272,17 @@ pub fn due_in(list: &[i32], i: usize, s: State) -> Result<Number, Refusal>
     ensures { result ≡ due_in_list limit s (key_of (get_or list.now i (pos 0))) i }
 {
     let u = u64::from(number(list, i));
-    if is_coordinate(s.due) {
-        return judged(s, u, i, i + 1);
+    // For speed x and y are two arms, alike as they are, and `is_coordinate` is not asked: so what follows is compiled for each, and not asked anew which is due.
+    match s.due {
+        Due::X => judged(s, u, i, i + 1),
+        Due::Y => judged(s, u, i, i + 1),
+        Due::Layer | Due::Count => {
+            if u < HALF {
+                return Err(Refusal::RingOutOfRange(i));
+            }
+            judged(s, u - HALF, i, i + 1)
+        }
     }
-    if u < HALF {
-        return Err(Refusal::RingOutOfRange(i));
-    }
-    judged(s, u - HALF, i, i + 1)
 }
 
 // Writes at n, where there is room for it, the number that stands 2^31 below k.
